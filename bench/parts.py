@@ -1,4 +1,4 @@
-"""Parts by themselves. Streams and Sockets show what a session and the rings cost."""
+"""Parts by themselves."""
 import os
 import re
 import subprocess

@@ -17,12 +17,12 @@ use Rattle.relay_model.specs.Sessions.{admitted, holds}
 use Rattle.relay_model.specs.May.{Legal}
 use Rattle.relay_session.specs.declared.sessions.Session.{Session}
 use Rattle.relay_session.specs.States.{Wished}
-use Rattle.relay_session.specs.Sessions.{Stands}
+use Rattle.relay_session.specs.Sessions.{Leaver, Stands}
 use Rattle.program_door.specs.declared.doors.Door.{Door}
 use Rattle.program_door.proofs.Moves.{numbers_are}
 use Rattle.fork_table.specs.Tables.{row_of, IsFirstLive, SameBounds}
 use Rattle.world_trait.specs.Seen.{Seen}
-use Rattle.session_laws.specs.SessionSets.{Leaver, MaySay}
+use Rattle.session_laws.specs.SessionSets.{MaySay}
 use Rattle.session_laws.proofs.Members.{closings_leave, acts_leave}
 use Rattle.event_loop.specs.declared.all_sessions.Sessions.{Sessions}
 use Rattle.event_loop.specs.declared.all_sessions.Row.{Row}

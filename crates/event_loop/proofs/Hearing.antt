@@ -4,9 +4,8 @@ use Rattle.std.specs.Ordering.{nat_cmp}
 use Rattle.std.specs.Cmp.{nat_cmp_total}
 use Rattle.std.specs.FinMap.{FinMap, get, remove, len, contains_key, len-remove, empty_of_len, get-empty}
 use Rattle.std.proofs.lemmas.Bool.{cases_eq, cases_lt, or_parts, true≢false, false≢true, false_from_ne_true}
-use Rattle.std.proofs.lemmas.List.{take_more, length-append, append-nil, append_assoc}
+use Rattle.std.proofs.lemmas.List.{length-append, append-nil, append_assoc}
 use Rattle.std.proofs.lemmas.List.Folds.{list_any-append}
-use Rattle.std.proofs.lemmas.Option.{slice_get_within, get_or_from_slice_get}
 use Rattle.relay_model.specs.declared.commands.Config.{Config}
 use Rattle.relay_model.specs.declared.places.Place.{Place}
 use Rattle.relay_model.specs.declared.readiness.ReadyAt.{ReadyAt}
@@ -22,14 +21,13 @@ use Rattle.event_loop.specs.Rows.{Has, SleepsIfLate}
 use Rattle.event_loop.specs.Courses.{NoWork, SameButWork, SameButLists, timer_of}
 use Rattle.event_loop.specs.Endings.{Once}
 use Rattle.event_loop.specs.Looks.{AddsDue, AddsParts, CameByName, CameForCause, CameInTime, HasCome, NoneDue}
-use Rattle.event_loop.specs.Turns.{HearsTurn, HearsRow, SameBesides, RowHeard, UnheardRow, AllUnheard, names_own, NamedRow, NamedHeard, HearsOnce, RowHearsOnce, QueuesNamed, Moves, QueuesDue, Queued}
+use Rattle.relay_session.specs.Sessions.{HearsTurn}
+use Rattle.relay_session.proofs.Naming.{take_next}
+use Rattle.event_loop.specs.Turns.{HearsRow, SameBesides, RowHeard, UnheardRow, AllUnheard, names_own, NamedRow, NamedHeard, HearsOnce, RowHearsOnce, QueuesNamed, Moves, QueuesDue, Queued}
 use Rattle.event_loop.proofs.Lists.{has_left, has_last, has_none}
 use Rattle.event_loop.proofs.RowLoops.{RowsTo, rows_next}
 use Rattle.event_loop.proofs.RowLaws.{same_timer}
 use Rattle.event_loop.proofs.RowRuns.{rest_itself, rest_then}
-
-pub take_next : {A : Type 0} (xs : List A) (i : ℕ) (x : A) → slice_get xs i ≡ Some x → take (i + 1) xs ≡ take i xs ++ x ∷ []
-take_next xs i x e = take_more xs i x (slice_get_within xs i x e) ∙ ap (λ y. take i xs ++ y ∷ []) (get_or_from_slice_get xs i x x e)
 
 pub heard_none : (made at : ℕ) (ready : Listed) (stop : Bool) (s : ℕ) → HearsRow made at ready stop None None
 heard_none made at ready stop s = tt

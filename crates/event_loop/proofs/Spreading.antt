@@ -21,8 +21,8 @@ use Rattle.relay_session.specs.declared.sessions.Session.{Session}
 use Rattle.relay_session.specs.declared.wishes.Wish.TheVariants as wishes
 use Rattle.relay_session.specs.Endings.{Ends, EndingIs}
 use Rattle.relay_session.specs.States.{Allowed, ClosesFor}
-use Rattle.relay_session.specs.Sessions.{Stands, IsGrounded, wish_of, ending_of}
-use Rattle.session_laws.specs.SessionSets.{Waker, Woke, Leaver}
+use Rattle.relay_session.specs.Sessions.{Stands, IsGrounded, Leaver, wish_of, ending_of}
+use Rattle.session_laws.specs.SessionSets.{Waker, Woke}
 use Rattle.session_loop.specs.Pauses.{Spreads, ends_all}
 use Rattle.event_loop.specs.Courses.{Unsaid}
 use Rattle.event_loop.specs.declared.all_sessions.Row.{Row}

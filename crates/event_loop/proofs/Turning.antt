@@ -39,7 +39,8 @@ use Rattle.event_loop.specs.declared.all_sessions.Row.{Row}
 use Rattle.event_loop.specs.Rows.{Has, Wakes, UpRow, RowIs}
 use Rattle.event_loop.specs.Courses.{RowOf, NextIs, CountsSessions, Frame, SessionsCourse, SessionsSomewhere, NoWork, SameLists, timer_of}
 use Rattle.event_loop.specs.Endings.{LeavesRow, MayEnd}
-use Rattle.event_loop.specs.Turns.{HearsTurn, HearsRow, DoorHearsTurn, AllHeard, AsleepRow, AllAsleep, UnheardRow, AllUnheard, NamedRow, HearsNamed, Queued, TakesTurn, names_own}
+use Rattle.relay_session.specs.Sessions.{HearsTurn}
+use Rattle.event_loop.specs.Turns.{HearsRow, DoorHearsTurn, AllHeard, AsleepRow, AllAsleep, UnheardRow, AllUnheard, NamedRow, HearsNamed, Queued, TakesTurn, names_own}
 use Rattle.event_loop.specs.Waited.{ShortAt, Exit, LeavingAt, IsWaitInOrder, SleepsRow, Stopping}
 use Rattle.event_loop.proofs.Lists.{has_none}
 use Rattle.event_loop.proofs.Counting.{counted_by}

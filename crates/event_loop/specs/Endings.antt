@@ -4,11 +4,11 @@ use Rattle.relay_model.specs.{Config, Act, Why, now as moment, turns, accept_fai
 use Rattle.relay_model.specs.declared.acts.Act.TheVariants.{AcceptFailed}
 use Rattle.relay_model.specs.declared.acts.Why.TheVariants as whys
 use Rattle.relay_model.specs.Rest.{Rest, owed}
-use Rattle.relay_session.specs.{Session, Ends, IsGrounded}
+use Rattle.relay_session.specs.{Session, Ends, IsGrounded, Leaver}
 use Rattle.fork_table.specs.{row_of}
 use Rattle.world_trait.specs.Seen.{Seen}
 use Rattle.session_driver.specs.{Counted}
-use Rattle.session_laws.specs.{Leaver, Sleeper, Woke}
+use Rattle.session_laws.specs.{Sleeper, Woke}
 use Rattle.session_loop.specs.{ends_all, Ran}
 use Rattle.event_loop.specs.declared.all_sessions.Sessions.{Sessions}
 use Rattle.event_loop.specs.declared.all_sessions.Row.{Row}

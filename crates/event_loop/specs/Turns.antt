@@ -3,27 +3,14 @@ use Rattle.std.specs.Prelude.{vec_len, ◌≡◌, ◌⊎◌, ℕ, ◌+◌, ◌^�
 use Rattle.std.specs.List.{list_any}
 use Rattle.relay_model.specs.{Config, ReadyAt, Act, Listed, copied_list}
 use Rattle.relay_model.specs.declared.acts.Act.TheVariants.{Turn}
-use Rattle.relay_model.specs.declared.acts.Why.TheVariants as whys
-use Rattle.relay_session.specs.{Session, Stands, Hears, wish_of}
-use Rattle.relay_session.specs.declared.wishes.Wish.TheVariants as wishes
+use Rattle.relay_session.specs.{HearsTurn}
 use Rattle.program_door.specs.{Door, DoorStands}
 use Rattle.fork_table.specs.{row_of}
 use Rattle.relay_laws.specs.{is_own_place}
-use Rattle.session_laws.specs.{Leaver}
 use Rattle.event_loop.specs.declared.all_sessions.Sessions.{Sessions}
 use Rattle.event_loop.specs.declared.all_sessions.Row.{Row}
 use Rattle.event_loop.specs.Rows.{Has, Sleeping}
 use Rattle.event_loop.specs.Courses.{OthersStay, SameRest, SameLists, SameButWork, SameButLists, timer_of}
-
--- a session has heard a turn; one that says stop has cut it
-abbrev pub HeardTurn : Config → ℕ → List Act → ℕ → Option ℕ → ℕ → Listed → Bool → Session → Type 0
-HeardTurn c n past s until at ready false x = Hears c n (Turn until at (copied_list ready) false ∷ past) s x
-HeardTurn c n past s until at ready true x = Leaver c n (Turn until at (copied_list ready) true ∷ past) s whys.Stopped x
-
--- so of every history after which it slept until some moment
-abbrev pub HearsTurn : ℕ → Listed → Bool → Session → Session → Type 0
-HearsTurn at ready stop old new =
-    (c : Config) (n : ℕ) (past : List Act) (s : ℕ) (until : Option ℕ) → Stands c n past s old → wish_of old ≡ wishes.Sleep until → HeardTurn c n past s until at ready stop new
 
 -- the door has heard it, after whatever it stood for
 abbrev pub DoorHearsTurn : Listed → Bool → Door → Door → Type 0

@@ -1,17 +1,14 @@
 // What a turn says to the door and to the sessions that it names, or to all where it says stop.
-ghost use Rattle.std.specs.Prelude.{◌≡◌, ℕ, ◌<◌, ◌≤◌, ◌+◌, length, Option, OnOk};
-ghost use Rattle.relay_session.specs.declared.wishes.Wish.TheVariants as wishes;
-ghost use Rattle.relay_session.specs.{wish_of};
+ghost use Rattle.std.specs.Prelude.{◌≡◌, ℕ, ◌<◌, ◌≤◌, ◌+◌, length, OnOk};
 ghost use Rattle.fork_table.specs.{row_of};
 ghost use Rattle.event_loop.specs.Rows.{Sleeping, SleepsIfLate};
-ghost use Rattle.event_loop.specs.Turns.{HearsTurn, HeardOnce, DoorHearsTurn};
+ghost use Rattle.event_loop.specs.Turns.{HeardOnce, DoorHearsTurn};
 
 use crate::all_sessions::{Row, Sessions};
 use command_places::is_program_door;
 use fork_table::Steps;
 use program_door::Door;
 use relay_model::{Config, NoMemory, ReadyList, Why};
-use relay_session::Session;
 use std::sync::ledger::Ledger;
 
 impl Sessions {
@@ -39,7 +36,7 @@ impl Sessions {
         ensures looks { steps.new.ticks ≤ steps.old.ticks + 1 }
     {
         if let Some(row) = self.table.session_mut(number, steps) {
-            hear_turn(&mut row.member.session, self.clock, &self.ready, true);
+            row.member.session.hear_turn(self.clock, &self.ready, true);
             row.turn = self.made;
         }
     }
@@ -107,21 +104,9 @@ fn hear_once(row: &mut Row, made: u64, at: u64, ready: &ReadyList)
     ensures { HeardOnce made at ready.now row.old row.new }
 {
     if row.turn < made {
-        hear_turn(&mut row.member.session, at, ready, false);
+        row.member.session.hear_turn(at, ready, false);
     }
     row.turn = made;
-}
-
-/// Hears a turn: its moment, the halves that it names, and whether it says stop.
-fn hear_turn(session: &mut Session, at: u64, ready: &ReadyList, stop: bool)
-    requires { (until : Option ℕ) × (wish_of session.old ≡ wishes.Sleep until) }
-    ensures { HearsTurn at ready.now stop session.old session.new }
-{
-    session.wake(at);
-    session.hear_names(ready);
-    if stop {
-        session.cut(Why::Stopped);
-    }
 }
 
 /// The door hears it too.

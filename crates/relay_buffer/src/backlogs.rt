@@ -106,6 +106,17 @@ impl Backlog {
         }
     }
 
+    /// Trades the own block, if none of its bytes wait and it is as long, for this one.
+    pub(crate) fn trade_back(&mut self, block: &mut Vec<u8>)
+        ensures bytes { held_bytes self.new ≡ held_bytes self.old }
+        ensures store { IsSameStore self.old self.new }
+        ensures block { vec_len block.new ≡ vec_len block.old }
+    {
+        if let Backlog::Stream(store) = self {
+            store.trade_back(block);
+        }
+    }
+
     /// Trades this block for the own one. Its first `count` bytes wait from then on.
     pub(crate) fn trade(&mut self, block: &mut Vec<u8>, count: usize)
         requires within { count ≤ vec_len block.old }

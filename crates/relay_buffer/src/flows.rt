@@ -92,6 +92,15 @@ impl Flow {
         self.held.append_converted(self.lane.how, kept);
     }
 
+    /// Gives the block that was traded for last back for this one, where none of its bytes wait: so all that a flow reads
+    /// into and writes from is one block.
+    pub fn trade_back(&mut self, block: &mut Vec<u8>)
+        ensures same { self.new ≡ self.old }
+        ensures block { vec_len block.new ≡ vec_len block.old }
+    {
+        self.held.trade_back(block);
+    }
+
     /// Fills in the first `count` bytes of a block that was read, for which the flow has room. Where they may wait as they
     /// are, the flow keeps the block, and its own takes the place of it.
     pub fn fill_block(&mut self, block: &mut Vec<u8>, count: usize)

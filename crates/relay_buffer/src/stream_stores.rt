@@ -91,6 +91,17 @@ impl StreamStore {
         empty && fits && worth_it && count > 0
     }
 
+    /// Trades the own block, if none of its bytes wait and it is as long, for this one.
+    pub(crate) fn trade_back(&mut self, block: &mut Vec<u8>)
+        ensures bytes { store_bytes self.new ≡ store_bytes self.old }
+        ensures capacity { self.new.ring.capacity ≡ self.old.ring.capacity }
+        ensures block { vec_len block.new ≡ vec_len block.old }
+    {
+        if self.from == self.to && self.block.len() == block.len() {
+            swap(&mut self.block, block);
+        }
+    }
+
     /// Trades this block for the own one. Its first `count` bytes wait from then on.
     pub(crate) fn trade(&mut self, block: &mut Vec<u8>, count: usize)
         requires within { count ≤ vec_len block.old }

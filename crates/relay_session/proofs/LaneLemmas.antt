@@ -1,5 +1,5 @@
 -- A lane, from what its direction tells.
-use Rattle.std.proofs.Common.{◌≡◌, refl, sym, ap, subst, ◌∙◌, ℕ, ◌+◌, ◌<◌, ◌≤◌, Bool, true, false, not, cond, List, ◌∷◌, take, length, min, Option, Some, None, is_some, arith}
+use Rattle.std.proofs.Common.{◌≡◌, refl, sym, ap, subst, ◌∙◌, ℕ, ◌+◌, ◌<◌, ◌≤◌, Bool, true, false, not, List, ◌∷◌, take, length, min, Option, Some, None, is_some, arith}
 use Rattle.relay_model.specs.declared.places.Way.{Way}
 use Rattle.relay_model.specs.declared.places.Way.TheVariants.{LeftToRight, RightToLeft}
 use Rattle.relay_model.specs.declared.places.Place.{Place}
@@ -19,9 +19,7 @@ use Rattle.session_direction.specs.Directions.{IsDirection, WantsRead, WantsWrit
 use Rattle.session_direction.specs.States.{DirectionState, can_read, can_write}
 use Rattle.relay_model.specs.declared.acts.Act.TheVariants as acts
 use Rattle.relay_laws.proofs.Holdings.{moves_formed}
-use Rattle.std.proofs.lemmas.Bool.{false≢true}
 use Rattle.session_direction.specs.Directions.{WantsNothing}
-use Rattle.session_direction.specs.States.{steps_in}
 use Rattle.session_direction.specs.Touches.{touches}
 use Rattle.session_direction.proofs.Wanted.{packets_are}
 use Rattle.relay_session.specs.declared.wishes.Wish.{Wish}
@@ -30,7 +28,7 @@ use Rattle.relay_session.specs.declared.transfers.Transfer.{Transfer}
 use Rattle.relay_session.specs.declared.transfers.Transfer.TheVariants as transfers
 use Rattle.relay_session.specs.declared.lanes.Lanes.{Lanes}
 use Rattle.relay_session.specs.Lanes.{ReadsAt, Offers, LaneWishes, LanesWish, lane_at, can_read_in, can_write_in}
-use Rattle.relay_session.specs.Transfers.{transfer_act, MayTransfer, TakesFrom, is_read, place_for, way_of, opposite}
+use Rattle.relay_session.specs.Transfers.{transfer_act, MayTransfer, TakesFrom, place_for, way_of, opposite}
 
 -- the way of an input and of an output
 from_input : (c : Config) (s : ℕ) (w : Way) → way_from (input c s w).side ≡ w
@@ -132,117 +130,58 @@ block_goes c past s w d' count least room xs may is size step =
 pub read_at : (c : Config) (past : List Act) (s : ℕ) (w : Way) (p : Place) (n : ℕ) → p.session ≡ s → way_from p.side ≡ w → MayRead c past p n → p ≡ input c s w
 read_at c past s w p n own way may = same_place_equal p (input c p.session (way_from p.side)) may.asks.is_input ∙ (λ i. input c (own i) (way i))
 
+apart : {P : Type 0} (w : Way) → w ≡ opposite w → P
+apart LeftToRight e = cc
+apart RightToLeft e = cc
+
 -- and not that of the other
 pub read_elsewhere : (c : Config) (s : ℕ) (w : Way) (p : Place) → way_from p.side ≡ opposite w → same_place p (input c s w) ≡ false
 read_elsewhere c s w p way = which (same_place p (input c s w)) refl
   where
-    apart : {P : Type 0} (w : Way) → w ≡ opposite w → P
-    apart LeftToRight e = cc
-    apart RightToLeft e = cc
-
     which : (b : Bool) → same_place p (input c s w) ≡ b → b ≡ false
     which false e = refl
     which true e = apart w (sym (ap (λ q. way_from q.side) (same_place_equal p (input c s w) e) ∙ from_input c s w) ∙ way)
 
--- ---- a transfer that concerns a direction, and one that doesn't
+-- ---- a transfer at a place is one of its direction's, and none of the other's
 
-at_input : (c : Config) (past : List Act) (s : ℕ) (w : Way) (d : DirectionState) (p : Place) → IsDirection c past s w d → same_place p d.source ≡ true → p ≡ input c s w
-at_input c past s w d p g e = same_place_equal p d.source e ∙ g.source_is
+write_at : (c : Config) (s : ℕ) (w : Way) (p : Place) → p.session ≡ s → way_to p.side ≡ w → same_place p (output c p.session (way_to p.side)) ≡ true → p ≡ output c s w
+write_at c s w p own way is_output = same_place_equal p (output c p.session (way_to p.side)) is_output ∙ (λ i. output c (own i) (way i))
 
-at_output : (c : Config) (past : List Act) (s : ℕ) (w : Way) (d : DirectionState) (p : Place) → IsDirection c past s w d → same_place p d.sink ≡ true → p ≡ output c s w
-at_output c past s w d p g e = same_place_equal p d.sink e ∙ g.sink_is
+write_elsewhere : (c : Config) (s : ℕ) (w : Way) (p : Place) → way_to p.side ≡ opposite w → same_place p (output c s w) ≡ false
+write_elsewhere c s w p way = which (same_place p (output c s w)) refl
+  where
+    which : (b : Bool) → same_place p (output c s w) ≡ b → b ≡ false
+    which false e = refl
+    which true e = apart w (sym (ap (λ q. way_to q.side) (same_place_equal p (output c s w) e) ∙ borders_at c s w) ∙ way)
 
-waits_at : (c : Config) (s : ℕ) (w : Way) (p : Place) → p ≡ output c s w → way_to p.side ≡ w
-waits_at c s w p e = ap (λ q. way_to q.side) e ∙ borders_at c s w
+pub elsewhere : (c : Config) (s : ℕ) (w : Way) (p : Place) (waiting : List ℕ) (t : Transfer) → way_of p t ≡ opposite w → touches c s w (transfer_act p waiting t) ≡ false
+elsewhere c s w p waiting (transfers.Read bytes) way = read_elsewhere c s w p way
+elsewhere c s w p waiting transfers.ReadEmpty way = read_elsewhere c s w p way
+elsewhere c s w p waiting transfers.ReadEnd way = read_elsewhere c s w p way
+elsewhere c s w p waiting transfers.ReadNotYet way = read_elsewhere c s w p way
+elsewhere c s w p waiting transfers.ReadFailed way = read_elsewhere c s w p way
+elsewhere c s w p waiting (transfers.Wrote count) way = write_elsewhere c s w p way
+elsewhere c s w p waiting transfers.WriteNotYet way = write_elsewhere c s w p way
+elsewhere c s w p waiting transfers.WriteFailed way = write_elsewhere c s w p way
+elsewhere c s w p waiting (transfers.Shut how) way = write_elsewhere c s w p way
+elsewhere c s w p waiting (transfers.ShutFailed how) way = write_elsewhere c s w p way
 
-pub heard_here : (c : Config) (past : List Act) (s : ℕ) (w : Way) (d : DirectionState) (p : Place) (waiting : List ℕ) (t : Transfer) (d' : DirectionState) → IsDirection c past s w d →
-    cond (is_read t) (same_place p d.source) (same_place p d.sink) ≡ true → (way_to p.side ≡ w → waiting ≡ d.flow.backlog) → MayTransfer c past p waiting t →
-    (MayTransfer c past (place_for c s w t) d.flow.backlog t → IsDirection c (transfer_act (place_for c s w t) d.flow.backlog t ∷ past) s w d') → IsDirection c (transfer_act p waiting t ∷ past) s w d'
-heard_here c past s w d p waiting (transfers.Read bytes) d' g e same may step = let k = at_input c past s w d p g e in subst (λ q. IsDirection c (acts.Read q bytes.now ∷ past) s w d') (sym k) (step (subst (λ q. MayRead c past q (length bytes.now)) k may))
-heard_here c past s w d p waiting transfers.ReadEmpty d' g e same may step = let k = at_input c past s w d p g e in subst (λ q. IsDirection c (acts.ReadEmpty q ∷ past) s w d') (sym k) (step (subst (λ q. MayRead c past q 1) k may))
-heard_here c past s w d p waiting transfers.ReadEnd d' g e same may step = let k = at_input c past s w d p g e in subst (λ q. IsDirection c (acts.ReadEnd q ∷ past) s w d') (sym k) (step (subst (λ q. MayRead c past q 1) k may))
-heard_here c past s w d p waiting transfers.ReadNotYet d' g e same may step = let k = at_input c past s w d p g e in subst (λ q. IsDirection c (acts.ReadNotYet q ∷ past) s w d') (sym k) (step (subst (λ q. MayRead c past q 1) k may))
-heard_here c past s w d p waiting transfers.ReadFailed d' g e same may step = let k = at_input c past s w d p g e in subst (λ q. IsDirection c (acts.ReadFault q ∷ past) s w d') (sym k) (step (subst (λ q. MayRead c past q 1) k may))
-heard_here c past s w d p waiting (transfers.Wrote count) d' g e same may step =
-    let k = at_output c past s w d p g e in
-    let v : waiting ≡ d.flow.backlog = same (waits_at c s w p k) in
-    subst (λ q. IsDirection c (acts.Wrote q (take count waiting) ∷ past) s w d') (sym k) (subst (λ ws. IsDirection c (acts.Wrote (output c s w) (take count ws) ∷ past) s w d') (sym v) (step (subst (λ ws. MayTryWrite c past (output c s w) × TakesFrom c (output c s w) ws count) v (subst (λ q. MayTryWrite c past q × TakesFrom c q waiting count) k may))))
-heard_here c past s w d p waiting transfers.WriteNotYet d' g e same may step = let k = at_output c past s w d p g e in subst (λ q. IsDirection c (acts.WriteNotYet q ∷ past) s w d') (sym k) (step (subst (λ q. MayTryWrite c past q) k may))
-heard_here c past s w d p waiting transfers.WriteFailed d' g e same may step = let k = at_output c past s w d p g e in subst (λ q. IsDirection c (acts.WriteFault q ∷ past) s w d') (sym k) (step (subst (λ q. MayTryWrite c past q) k may))
-heard_here c past s w d p waiting (transfers.Shut how) d' g e same may step = let k = at_output c past s w d p g e in subst (λ q. IsDirection c (acts.Shut q how ∷ past) s w d') (sym k) (step (subst (λ q. MayShut c past q how) k may))
-heard_here c past s w d p waiting (transfers.ShutFailed how) d' g e same may step = let k = at_output c past s w d p g e in subst (λ q. IsDirection c (acts.ShutFault q how ∷ past) s w d') (sym k) (step (subst (λ q. MayShut c past q how) k may))
-
-pub heard_elsewhere : (c : Config) (past : List Act) (s : ℕ) (w : Way) (d : DirectionState) (p : Place) (waiting : List ℕ) (t : Transfer) → IsDirection c past s w d →
-    cond (is_read t) (same_place p d.source) (same_place p d.sink) ≡ false → touches c s w (transfer_act p waiting t) ≡ false
-heard_elsewhere c past s w d p waiting (transfers.Read bytes) g e = ap (same_place p) (sym g.source_is) ∙ e
-heard_elsewhere c past s w d p waiting transfers.ReadEmpty g e = ap (same_place p) (sym g.source_is) ∙ e
-heard_elsewhere c past s w d p waiting transfers.ReadEnd g e = ap (same_place p) (sym g.source_is) ∙ e
-heard_elsewhere c past s w d p waiting transfers.ReadNotYet g e = ap (same_place p) (sym g.source_is) ∙ e
-heard_elsewhere c past s w d p waiting transfers.ReadFailed g e = ap (same_place p) (sym g.source_is) ∙ e
-heard_elsewhere c past s w d p waiting (transfers.Wrote count) g e = ap (same_place p) (sym g.sink_is) ∙ e
-heard_elsewhere c past s w d p waiting transfers.WriteNotYet g e = ap (same_place p) (sym g.sink_is) ∙ e
-heard_elsewhere c past s w d p waiting transfers.WriteFailed g e = ap (same_place p) (sym g.sink_is) ∙ e
-heard_elsewhere c past s w d p waiting (transfers.Shut how) g e = ap (same_place p) (sym g.sink_is) ∙ e
-heard_elsewhere c past s w d p waiting (transfers.ShutFailed how) g e = ap (same_place p) (sym g.sink_is) ∙ e
-
-pub fewer_here : (c : Config) (past : List Act) (s : ℕ) (w : Way) (d : DirectionState) (p : Place) (waiting : List ℕ) (t : Transfer) → IsDirection c past s w d →
-    cond (is_read t) (same_place p d.source) (same_place p d.sink) ≡ true → (way_to p.side ≡ w → waiting ≡ d.flow.backlog) → MayTransfer c past p waiting t →
-    (n : ℕ) → (MayTransfer c past (place_for c s w t) d.flow.backlog t → n < steps_in d) → n < steps_in d
-fewer_here c past s w d p waiting (transfers.Read bytes) g e same may n step = let k = at_input c past s w d p g e in step (subst (λ q. MayTransfer c past q d.flow.backlog (transfers.Read bytes)) k may)
-fewer_here c past s w d p waiting transfers.ReadEmpty g e same may n step = let k = at_input c past s w d p g e in step (subst (λ q. MayTransfer c past q d.flow.backlog transfers.ReadEmpty) k may)
-fewer_here c past s w d p waiting transfers.ReadEnd g e same may n step = let k = at_input c past s w d p g e in step (subst (λ q. MayTransfer c past q d.flow.backlog transfers.ReadEnd) k may)
-fewer_here c past s w d p waiting transfers.ReadNotYet g e same may n step = let k = at_input c past s w d p g e in step (subst (λ q. MayTransfer c past q d.flow.backlog transfers.ReadNotYet) k may)
-fewer_here c past s w d p waiting transfers.ReadFailed g e same may n step = let k = at_input c past s w d p g e in step (subst (λ q. MayTransfer c past q d.flow.backlog transfers.ReadFailed) k may)
-fewer_here c past s w d p waiting (transfers.Wrote count) g e same may n step = let k = at_output c past s w d p g e in step (subst (λ ws. MayTransfer c past (output c s w) ws (transfers.Wrote count)) (same (waits_at c s w p k)) (subst (λ q. MayTransfer c past q waiting (transfers.Wrote count)) k may))
-fewer_here c past s w d p waiting transfers.WriteNotYet g e same may n step = let k = at_output c past s w d p g e in step (subst (λ ws. MayTransfer c past (output c s w) ws transfers.WriteNotYet) (same (waits_at c s w p k)) (subst (λ q. MayTransfer c past q waiting transfers.WriteNotYet) k may))
-fewer_here c past s w d p waiting transfers.WriteFailed g e same may n step = let k = at_output c past s w d p g e in step (subst (λ ws. MayTransfer c past (output c s w) ws transfers.WriteFailed) (same (waits_at c s w p k)) (subst (λ q. MayTransfer c past q waiting transfers.WriteFailed) k may))
-fewer_here c past s w d p waiting (transfers.Shut how) g e same may n step = let k = at_output c past s w d p g e in step (subst (λ ws. MayTransfer c past (output c s w) ws (transfers.Shut how)) (same (waits_at c s w p k)) (subst (λ q. MayTransfer c past q waiting (transfers.Shut how)) k may))
-fewer_here c past s w d p waiting (transfers.ShutFailed how) g e same may n step = let k = at_output c past s w d p g e in step (subst (λ ws. MayTransfer c past (output c s w) ws (transfers.ShutFailed how)) (same (waits_at c s w p k)) (subst (λ q. MayTransfer c past q waiting (transfers.ShutFailed how)) k may))
-
--- a transfer of this way is at its own place
-reads_own : (c : Config) (past : List Act) (s : ℕ) (w : Way) (d : DirectionState) (p : Place) (n : ℕ) → IsDirection c past s w d → p.session ≡ s → way_from p.side ≡ w → MayRead c past p n → same_place p d.source ≡ true
-reads_own c past s w d p n g own way may = ap (same_place p) (g.source_is ∙ (λ i. input c (sym own i) (sym way i))) ∙ may.asks.is_input
-
-writes_own : (c : Config) (past : List Act) (s : ℕ) (w : Way) (d : DirectionState) (p : Place) → IsDirection c past s w d → p.session ≡ s → way_to p.side ≡ w → same_place p (output c p.session (way_to p.side)) ≡ true → same_place p d.sink ≡ true
-writes_own c past s w d p g own way is_output = ap (same_place p) (g.sink_is ∙ (λ i. output c (sym own i) (sym way i))) ∙ is_output
-
-clash : {P : Type 0} (b : Bool) → b ≡ true → b ≡ false → P
-clash b t f = absurd (false≢true (sym f ∙ t))
-
-pub concerned : {P : Type 0} (c : Config) (past : List Act) (s : ℕ) (w : Way) (d : DirectionState) (p : Place) (waiting : List ℕ) (t : Transfer) → IsDirection c past s w d → p.session ≡ s → way_of p t ≡ w → MayTransfer c past p waiting t →
-    cond (is_read t) (same_place p d.source) (same_place p d.sink) ≡ false → P
-concerned c past s w d p waiting (transfers.Read bytes) g own way may e = clash (same_place p d.source) (reads_own c past s w d p (length bytes.now) g own way may) e
-concerned c past s w d p waiting transfers.ReadEmpty g own way may e = clash (same_place p d.source) (reads_own c past s w d p 1 g own way may) e
-concerned c past s w d p waiting transfers.ReadEnd g own way may e = clash (same_place p d.source) (reads_own c past s w d p 1 g own way may) e
-concerned c past s w d p waiting transfers.ReadNotYet g own way may e = clash (same_place p d.source) (reads_own c past s w d p 1 g own way may) e
-concerned c past s w d p waiting transfers.ReadFailed g own way may e = clash (same_place p d.source) (reads_own c past s w d p 1 g own way may) e
-concerned c past s w d p waiting (transfers.Wrote count) g own way may e = clash (same_place p d.sink) (writes_own c past s w d p g own way may.0.offers.is_output) e
-concerned c past s w d p waiting transfers.WriteNotYet g own way may e = clash (same_place p d.sink) (writes_own c past s w d p g own way may.offers.is_output) e
-concerned c past s w d p waiting transfers.WriteFailed g own way may e = clash (same_place p d.sink) (writes_own c past s w d p g own way may.offers.is_output) e
-concerned c past s w d p waiting (transfers.Shut how) g own way may e = clash (same_place p d.sink) (writes_own c past s w d p g own way may.is_output) e
-concerned c past s w d p waiting (transfers.ShutFailed how) g own way may e = clash (same_place p d.sink) (writes_own c past s w d p g own way may.is_output) e
-
--- a transfer of the other way is elsewhere
-reads_other : {P : Type 0} (c : Config) (past : List Act) (s : ℕ) (w : Way) (d : DirectionState) (p : Place) → IsDirection c past s w d → way_from p.side ≡ opposite w → same_place p d.source ≡ true → P
-reads_other c past s LeftToRight d p g way e = cc (sym (ap (λ q. way_from q.side) (at_input c past s LeftToRight d p g e)) ∙ way)
-reads_other c past s RightToLeft d p g way e = cc (sym (ap (λ q. way_from q.side) (at_input c past s RightToLeft d p g e)) ∙ way)
-
-writes_other : {P : Type 0} (c : Config) (past : List Act) (s : ℕ) (w : Way) (d : DirectionState) (p : Place) → IsDirection c past s w d → way_to p.side ≡ opposite w → same_place p d.sink ≡ true → P
-writes_other c past s LeftToRight d p g way e = cc (sym (ap (λ q. way_to q.side) (at_output c past s LeftToRight d p g e)) ∙ way)
-writes_other c past s RightToLeft d p g way e = cc (sym (ap (λ q. way_to q.side) (at_output c past s RightToLeft d p g e)) ∙ way)
-
-pub unconcerned : {P : Type 0} (c : Config) (past : List Act) (s : ℕ) (w : Way) (d : DirectionState) (p : Place) (t : Transfer) → IsDirection c past s w d → way_of p t ≡ opposite w →
-    cond (is_read t) (same_place p d.source) (same_place p d.sink) ≡ true → P
-unconcerned c past s w d p (transfers.Read bytes) g way e = reads_other c past s w d p g way e
-unconcerned c past s w d p transfers.ReadEmpty g way e = reads_other c past s w d p g way e
-unconcerned c past s w d p transfers.ReadEnd g way e = reads_other c past s w d p g way e
-unconcerned c past s w d p transfers.ReadNotYet g way e = reads_other c past s w d p g way e
-unconcerned c past s w d p transfers.ReadFailed g way e = reads_other c past s w d p g way e
-unconcerned c past s w d p (transfers.Wrote count) g way e = writes_other c past s w d p g way e
-unconcerned c past s w d p transfers.WriteNotYet g way e = writes_other c past s w d p g way e
-unconcerned c past s w d p transfers.WriteFailed g way e = writes_other c past s w d p g way e
-unconcerned c past s w d p (transfers.Shut how) g way e = writes_other c past s w d p g way e
-unconcerned c past s w d p (transfers.ShutFailed how) g way e = writes_other c past s w d p g way e
+-- what holds of a transfer at the place of its direction, with what waits there, holds of it as it came
+pub at_its_place : (P : Act → Type 0) (c : Config) (past : List Act) (s : ℕ) (w : Way) (p : Place) (waiting there : List ℕ) (t : Transfer) → p.session ≡ s → way_of p t ≡ w → MayTransfer c past p waiting t → (way_to p.side ≡ w → waiting ≡ there) →
+    (MayTransfer c past (place_for c s w t) there t → P (transfer_act (place_for c s w t) there t)) → P (transfer_act p waiting t)
+at_its_place P c past s w p waiting there (transfers.Read bytes) own way may same step = let k = read_at c past s w p (length bytes.now) own way may in subst (λ q. P (acts.Read q bytes.now)) (sym k) (step (subst (λ q. MayRead c past q (length bytes.now)) k may))
+at_its_place P c past s w p waiting there transfers.ReadEmpty own way may same step = let k = read_at c past s w p 1 own way may in subst (λ q. P (acts.ReadEmpty q)) (sym k) (step (subst (λ q. MayRead c past q 1) k may))
+at_its_place P c past s w p waiting there transfers.ReadEnd own way may same step = let k = read_at c past s w p 1 own way may in subst (λ q. P (acts.ReadEnd q)) (sym k) (step (subst (λ q. MayRead c past q 1) k may))
+at_its_place P c past s w p waiting there transfers.ReadNotYet own way may same step = let k = read_at c past s w p 1 own way may in subst (λ q. P (acts.ReadNotYet q)) (sym k) (step (subst (λ q. MayRead c past q 1) k may))
+at_its_place P c past s w p waiting there transfers.ReadFailed own way may same step = let k = read_at c past s w p 1 own way may in subst (λ q. P (acts.ReadFault q)) (sym k) (step (subst (λ q. MayRead c past q 1) k may))
+at_its_place P c past s w p waiting there (transfers.Wrote count) own way may same step =
+    let k = write_at c s w p own way may.0.offers.is_output in
+    let v = same way in
+    subst (λ q. P (acts.Wrote q (take count waiting))) (sym k) (subst (λ ws. P (acts.Wrote (output c s w) (take count ws))) (sym v) (step (subst (λ q. MayTryWrite c past q × TakesFrom c q there count) k (subst (λ ws. MayTryWrite c past p × TakesFrom c p ws count) v may))))
+at_its_place P c past s w p waiting there transfers.WriteNotYet own way may same step = let k = write_at c s w p own way may.offers.is_output in subst (λ q. P (acts.WriteNotYet q)) (sym k) (step (subst (λ q. MayTryWrite c past q) k may))
+at_its_place P c past s w p waiting there transfers.WriteFailed own way may same step = let k = write_at c s w p own way may.offers.is_output in subst (λ q. P (acts.WriteFault q)) (sym k) (step (subst (λ q. MayTryWrite c past q) k may))
+at_its_place P c past s w p waiting there (transfers.Shut how) own way may same step = let k = write_at c s w p own way may.is_output in subst (λ q. P (acts.Shut q how)) (sym k) (step (subst (λ q. MayShut c past q how) k may))
+at_its_place P c past s w p waiting there (transfers.ShutFailed how) own way may same step = let k = write_at c s w p own way may.is_output in subst (λ q. P (acts.ShutFault q how)) (sym k) (step (subst (λ q. MayShut c past q how) k may))
 
 -- a direction that may transfer is formed
 moving_of : (c : Config) (past : List Act) (p : Place) (waiting : List ℕ) (t : Transfer) → MayTransfer c past p waiting t → is_going c past p.session (way_of p t) ≡ true
@@ -266,8 +205,3 @@ fewer_left a a' b b' h e = omega (arith, h, e)
 
 pub fewer_right : (a a' b b' : ℕ) → a' ≡ a → b' < b → a' + b' < a + b
 fewer_right a a' b b' e h = omega (arith, h, e)
-
--- of two lanes the one that a transfer is of takes a step
-pub one_fewer : (v : Way) (a a' b b' : ℕ) → (v ≡ LeftToRight → a' < a) → (v ≡ opposite LeftToRight → a' ≡ a) → (v ≡ RightToLeft → b' < b) → (v ≡ opposite RightToLeft → b' ≡ b) → a' + b' < a + b
-one_fewer LeftToRight a a' b b' f g h k = fewer_left a a' b b' (f refl) (k refl)
-one_fewer RightToLeft a a' b b' f g h k = fewer_right a a' b b' (g refl) (h refl)

@@ -1,6 +1,5 @@
 pub mod Attempts
 pub mod Births
-pub mod Blames
 pub mod Bounds
 pub mod Causes
 mod Children
@@ -14,12 +13,12 @@ pub mod Lives
 pub mod Naming
 pub mod Own
 pub mod Packets
+pub mod Passing
 pub mod Plans
 pub mod Possible
 pub mod Quiet
 pub mod Rests
 pub mod Standings
 pub mod StepLemmas
-pub mod Stops
 pub mod TimerLemmas
 pub mod Waiting

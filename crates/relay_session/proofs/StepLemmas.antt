@@ -43,7 +43,7 @@ use Rattle.relay_session.specs.declared.lanes.SessionLane.{SessionLane}
 use Rattle.relay_session.specs.declared.lanes.SessionLane.TheVariants.{Unformed, Formed}
 use Rattle.relay_session.specs.Lanes.{IsLane, AreLanes, ReadsAt, Offers, lanes_steps, lane_at, waiting_in, waiting_at}
 use Rattle.session_direction.proofs.Wanted.{packets_are, may_write_some}
-use Rattle.relay_session.specs.Transfers.{transfer_act, MayTransfer, TakesFrom, moves_bytes, is_fault}
+use Rattle.relay_session.specs.Transfers.{transfer_act, MayTransfer, TakesFrom, is_fault}
 use Rattle.relay_session.specs.States.{Ground, Fields, Closes, ClosesFor, home, steps_of}
 use Rattle.relay_session.specs.Steps.{Absorbed, Heeds}
 use Rattle.relay_session.proofs.Causes.{ending_of, own_session, closed_cause}
@@ -205,7 +205,7 @@ read_own c past s p n own may =
     let e : p ≡ input c p.session (way_from p.side) = same_place_equal p (input c p.session (way_from p.side)) may.asks.is_input in
     subst (λ q. is_place_of c s q ≡ true) (sym (e ∙ ap (λ x. input c x (way_from p.side)) own)) (input_own c s (way_from p.side) (moves_formed c past p.session (way_from p.side) may.asks.moving))
 
-offer_own : (c : Config) (past : List Act) (s : ℕ) (p : Place) → p.session ≡ s → MayOffer c past p → is_place_of c s p ≡ true
+pub offer_own : (c : Config) (past : List Act) (s : ℕ) (p : Place) → p.session ≡ s → MayOffer c past p → is_place_of c s p ≡ true
 offer_own c past s p own may =
     let e : p ≡ output c p.session (way_to p.side) = same_place_equal p (output c p.session (way_to p.side)) may.is_output in
     subst (λ q. is_place_of c s q ≡ true) (sym (e ∙ ap (λ x. output c x (way_to p.side)) own)) (output_own c s (way_to p.side) (moves_formed c past p.session (way_to p.side) may.moving))
@@ -271,18 +271,6 @@ transfer_untouched c s p waiting transfers.WriteNotYet = refl
 transfer_untouched c s p waiting transfers.WriteFailed = refl
 transfer_untouched c s p waiting (transfers.Shut how) = refl
 transfer_untouched c s p waiting (transfers.ShutFailed how) = refl
-
-pub transfer_moved : (c : Config) (past : List Act) (s : ℕ) (p : Place) (waiting : List ℕ) (t : Transfer) (clock before : ℕ) → p.session ≡ s → MayTransfer c past p waiting t → clock ≡ now past → before ≡ moved_at c past s → cond (moves_bytes t) clock before ≡ moved_at c (transfer_act p waiting t ∷ past) s
-transfer_moved c past s p waiting (transfers.Read bytes) clock before own may at was = noted (is_place_of c s p) (now past) clock (moved_at c past s) (read_own c past s p (length bytes.now) own may) at
-transfer_moved c past s p waiting transfers.ReadEmpty clock before own may at was = was
-transfer_moved c past s p waiting transfers.ReadEnd clock before own may at was = was
-transfer_moved c past s p waiting transfers.ReadNotYet clock before own may at was = was
-transfer_moved c past s p waiting transfers.ReadFailed clock before own may at was = was
-transfer_moved c past s p waiting (transfers.Wrote count) clock before own may at was = noted (is_place_of c s p) (now past) clock (moved_at c past s) (offer_own c past s p own may.0.offers) at
-transfer_moved c past s p waiting transfers.WriteNotYet clock before own may at was = was
-transfer_moved c past s p waiting transfers.WriteFailed clock before own may at was = was
-transfer_moved c past s p waiting (transfers.Shut how) clock before own may at was = was
-transfer_moved c past s p waiting (transfers.ShutFailed how) clock before own may at was = was
 
 or_true : (a : Bool) → (a || true) ≡ true
 or_true true = refl

@@ -3,7 +3,6 @@ pub mod Blames
 pub mod Conditions
 pub mod Endings
 pub mod Lanes
-pub mod Laws
 pub mod Sessions
 pub mod Standings
 pub mod States
@@ -15,7 +14,7 @@ pub mod Wishes
 pub use Births.{BeginsSession}
 pub use Blames.{is_blamed}
 pub use Endings.{Ends}
-pub use Sessions.{AsksEach, Heard, Hears, IsGrounded, IsPendingSession, Stands, ending_of, has_asked_at, has_ended}
+pub use Sessions.{AsksEach, Heard, HeardTurn, Hears, HearsTurn, IsGrounded, IsPendingSession, Leaver, Stands, ending_of, has_asked_at, has_ended}
 pub use Sessions.{left_of, waiting_of, wish_of}
 pub use States.{Ground, IsDone, Sleeps, Wished, home}
 pub use Timers.{session_until}

@@ -1,10 +1,13 @@
 -- What a session says of the history that it stands for.
-use Rattle.std.specs.Prelude.{◌≡◌, ℕ, ◌<◌, Bool, true, List, ◌∷◌, Option, Some, None, is_some}
-use Rattle.relay_model.specs.{Config, Place, Act, Why, is_place_of, is_program, medium_of, was_closed, owed}
+use Rattle.std.specs.Prelude.{◌≡◌, ℕ, ◌<◌, Bool, true, false, List, ◌∷◌, Option, Some, None, is_some}
+use Rattle.relay_model.specs.{Config, Place, Act, Why, Listed, copied_list, closed_why, is_place_of, is_program, medium_of, was_closed, owed}
+use Rattle.relay_model.specs.declared.acts.Act.TheVariants as acts
+use Rattle.relay_model.specs.declared.acts.Why.TheVariants as whys
 use Rattle.place_openings.specs.{has_asked}
 use Rattle.relay_model.specs.May.{May}
 use Rattle.relay_session.specs.declared.sessions.Session.{Session}
 use Rattle.relay_session.specs.declared.wishes.Wish.{Wish}
+use Rattle.relay_session.specs.declared.wishes.Wish.TheVariants as wishes
 use Rattle.relay_session.specs.declared.sessions.PendingSession.{PendingSession}
 use Rattle.relay_session.specs.Births.{IsNew}
 use Rattle.relay_session.specs.States.{Ground, Fields, Allowed, steps_of, home}
@@ -24,6 +27,22 @@ pub record IsPendingSession (c : Config) (s : ℕ) (pending_session : PendingSes
 pub record Hears (c : Config) (n : ℕ) (past : List Act) (s : ℕ) (session : Session) : Type 0 where
   pub stands : Stands c n past s session
   pub heeds : Heeds c past s session.state
+
+-- a session that was cut for this reason, and of which nothing was closed yet
+pub record Leaver (c : Config) (n : ℕ) (past : List Act) (s : ℕ) (why : Why) (session : Session) : Type 0 where
+  pub stands : Stands c n past s session
+  pub ending : session.state.ending ≡ Some why
+  pub unclosed : closed_why c past s ≡ None
+
+-- it has heard a turn; one that says stop has cut it
+abbrev pub HeardTurn : Config → ℕ → List Act → ℕ → Option ℕ → ℕ → Listed → Bool → Session → Type 0
+HeardTurn c n past s until at ready false session = Hears c n (acts.Turn until at (copied_list ready) false ∷ past) s session
+HeardTurn c n past s until at ready true session = Leaver c n (acts.Turn until at (copied_list ready) true ∷ past) s whys.Stopped session
+
+-- so of every history after which it slept until some moment
+abbrev pub HearsTurn : ℕ → Listed → Bool → Session → Session → Type 0
+HearsTurn at ready stop old new =
+    (c : Config) (n : ℕ) (past : List Act) (s : ℕ) (until : Option ℕ) → Stands c n past s old → old.wish ≡ wishes.Sleep until → HeardTurn c n past s until at ready stop new
 
 -- what it keeps is what this history says, whatever ends it and whatever it wishes for
 abbrev pub IsGrounded : Config → List Act → ℕ → Session → Type 0

@@ -1,13 +1,13 @@
 // The two directions of a session, each where the command forms it.
-ghost use Rattle.std.specs.Prelude.{◌≡◌, if◌then◌else◌, ℕ, ◌+◌, ◌<◌, ◌≤◌, ◌&&◌, ◌||◌, ◌∷◌, ◌++◌, [], not, List, Option, length, take, true, false, is_some, vec_len, IfOk};
-ghost use Rattle.relay_model.specs.{Act, Peer as Visitor, Config as Command, Way as Direct, ReadyAt as Entry, formed as forms, input, way_to, Fit};
+ghost use Rattle.std.specs.Prelude.{◌≡◌, ℕ, ◌+◌, ◌<◌, ◌≤◌, ◌&&◌, ◌||◌, ◌∷◌, ◌++◌, [], not, List, Option, length, take, true, false, is_some, vec_len, IfOk};
+ghost use Rattle.relay_model.specs.{Act, Peer as Visitor, Config as Command, Way as Direct, ReadyAt as Entry, formed as forms, input, Fit};
 ghost use Rattle.relay_model.specs.{now as last_moment, later, earlier, passed, broken, done, done_at, is_unfinished, running, each_formed};
-ghost use Rattle.relay_model.specs.{some_formed, way_work, input_moment, MayRead, same_place, Listed};
+ghost use Rattle.relay_model.specs.{some_formed, way_work, input_moment, MayRead, Listed};
 ghost use Rattle.relay_model.specs.declared.acts.Act.TheVariants as acts;
 ghost use Rattle.relay_model.specs.declared.places.Way.TheVariants.{LeftToRight, RightToLeft};
 ghost use Rattle.session_direction.specs.{listed, IsDirection, steps_in, touches};
 ghost use Rattle.relay_session.specs.Timers.{one_done_at};
-ghost use Rattle.relay_session.specs.Transfers.{transfer_act, MayTransfer, affords, affords_at, is_read, place_for, way_of, opposite};
+ghost use Rattle.relay_session.specs.Transfers.{transfer_act, MayTransfer, affords, affords_at, place_for, way_of};
 
 use crate::moments::{earlier as lesser, one_of};
 use crate::transfers::Transfer;
@@ -164,26 +164,27 @@ impl SessionLane {
         }
     }
 
-    /// A read, a write or a shut was answered at a place, this direction's or another.
-    pub fn hear(&mut self, now: u64, place: Place, transfer: Transfer<'_>)
-        ensures goes { (c : Command) (past : List Act) (s : ℕ) (w : Direct) (waiting : List ℕ) → IsLane c past s w self.old
-            → now ≡ last_moment past → place.session ≡ s → (way_to place.side ≡ w → waiting ≡ waiting_in self.old)
-            → MayTransfer c past place waiting transfer.entry
-            → IsLane c (transfer_act place waiting transfer.entry ∷ past) s w self.new }
-        ensures fewer { (c : Command) (past : List Act) (s : ℕ) (w : Direct) (waiting : List ℕ) → IsLane c past s w self.old
-            → place.session ≡ s → way_of place transfer.entry ≡ w
-            → (way_to place.side ≡ w → waiting ≡ waiting_in self.old)
-            → MayTransfer c past place waiting transfer.entry → affords self.old transfer.entry ≡ true
-            → lane_steps self.new < lane_steps self.old }
-        ensures same { (c : Command) (past : List Act) (s : ℕ) (w : Direct) → IsLane c past s w self.old
-            → way_of place transfer.entry ≡ opposite w → lane_steps self.new ≡ lane_steps self.old }
+    /// A read, a write or a shut of this direction was answered.
+    pub fn hear(&mut self, now: u64, transfer: Transfer<'_>)
+        ensures goes { (c : Command) (past : List Act) (s : ℕ) (w : Direct) → IsLane c past s w self.old → now ≡ last_moment past
+            → MayTransfer c past (place_for c s w transfer.entry) (waiting_in self.old) transfer.entry
+            → IsLane c (transfer_act (place_for c s w transfer.entry) (waiting_in self.old) transfer.entry ∷ past) s w self.new }
+        ensures fewer { (c : Command) (past : List Act) (s : ℕ) (w : Direct) → IsLane c past s w self.old
+            → MayTransfer c past (place_for c s w transfer.entry) (waiting_in self.old) transfer.entry
+            → affords self.old transfer.entry ≡ true → lane_steps self.new < lane_steps self.old }
     {
         if let SessionLane::Formed(direction) = self {
-            if concerns(direction, place, transfer) {
-                hear(direction, now, transfer);
-            } else {
-                direction.stay();
-            }
+            hear(direction, now, transfer);
+        }
+    }
+
+    /// Gives the block that was traded for last back for this one, where none of its bytes wait.
+    fn trade_back(&mut self, block: &mut Vec<u8>)
+        ensures same { self.new ≡ self.old }
+        ensures block { vec_len block.new ≡ vec_len block.old }
+    {
+        if let SessionLane::Formed(direction) = self {
+            direction.trade_back(block);
         }
     }
 
@@ -358,8 +359,27 @@ impl Lanes {
             → MayTransfer c past place (waiting_at self.old place) transfer.entry
             → affords_at self.old place transfer.entry ≡ true → lanes_steps self.new < lanes_steps self.old }
     {
-        self.to_right.hear(now, place, transfer);
-        self.to_left.hear(now, place, transfer);
+        match way_of(place, transfer) {
+            Way::LeftToRight => {
+                self.to_right.hear(now, transfer);
+                self.to_left.stay();
+            }
+            Way::RightToLeft => {
+                self.to_right.stay();
+                self.to_left.hear(now, transfer);
+            }
+        }
+    }
+
+    /// Gives the block that was traded for last at the place back for this one, where none of its bytes wait.
+    pub fn trade_back(&mut self, place: Place, block: &mut Vec<u8>)
+        ensures same { self.new ≡ self.old }
+        ensures block { vec_len block.new ≡ vec_len block.old }
+    {
+        match place.side {
+            Side::Left => self.to_right.trade_back(block),
+            Side::Right => self.to_left.trade_back(block),
+        }
     }
 
     /// The first `count` bytes of this block were read at the place. Where they may wait in it, the direction keeps it, and
@@ -418,16 +438,14 @@ impl Lanes {
     }
 }
 
-/// Whether a transfer at a place is one of this direction's.
-fn concerns(direction: &Direction, place: Place, transfer: Transfer<'_>) -> bool
-    ensures { result ≡ (if is_read transfer.entry then same_place place direction.now.source else same_place place direction.now.sink) }
+/// The direction of a transfer at this place.
+fn way_of(place: Place, transfer: Transfer<'_>) -> Way
+    ensures { result ≡ way_of place transfer.entry }
 {
-    let end = if transfer.is_read() {
-        direction.source()
-    } else {
-        direction.sink()
-    };
-    place.is(end)
+    match (place.side, transfer.is_read()) {
+        (Side::Left, true) | (Side::Right, false) => Way::LeftToRight,
+        (Side::Left, false) | (Side::Right, true) => Way::RightToLeft,
+    }
 }
 
 /// Takes in a transfer of this direction.

@@ -4,7 +4,6 @@
 
 mod first_places;
 mod lanes;
-mod laws;
 mod moments;
 mod sessions;
 mod states;
@@ -12,10 +11,6 @@ mod steps;
 mod transfers;
 mod wishes;
 
-pub use laws::{
-    cause_is_told, failure_is_blamed, held_is_own, rest_is_of_one, stages_tell, stop_is_told,
-    tries_are_counted, unshut_is_open, until_is_of_one,
-};
 pub use moments::earlier;
 pub use place_openings::GivenUp;
 pub use relay_buffer::new_block;

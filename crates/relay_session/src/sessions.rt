@@ -77,7 +77,7 @@ pub struct Session {
 }
 
 impl Session {
-    ghost use Rattle.relay_session.specs.Sessions.{Stands, Hears, HeardBy, IsGrounded, AsksEach, KeepsEnding, StaysEnded, wish_of, waiting_of, left_of, ending_of, has_ended, has_asked_at};
+    ghost use Rattle.relay_session.specs.Sessions.{Stands, Hears, HearsTurn, HeardBy, IsGrounded, AsksEach, KeepsEnding, StaysEnded, wish_of, waiting_of, left_of, ending_of, has_ended, has_asked_at};
 
     /// The session of a command without `fork`, at the beginning of its history. It takes all the memory that it
     /// will use.
@@ -164,6 +164,15 @@ impl Session {
         self.wish = self.state.plan();
     }
 
+    /// Before a wished read: the block that was traded for last at this place comes back for this one, as long, where none
+    /// of its bytes wait.
+    pub fn trade_back(&mut self, place: Place, block: &mut Vec<u8>)
+        ensures same { self.new ≡ self.old }
+        ensures block { vec_len block.new ≡ vec_len block.old }
+    {
+        self.state.lanes.trade_back(place, block);
+    }
+
     /// The answer to a wished read: the first `count` bytes of this block. It is heard as these bytes are. Where they may
     /// wait in it, the session keeps the block, and one of its own, as long, takes the place of it.
     pub fn hear_block(&mut self, block: &mut Vec<u8>, count: usize)
@@ -201,14 +210,13 @@ impl Session {
         self.wish = self.state.plan();
     }
 
-    /// The turn that was just heard names these halves, and none before them.
-    pub fn hear_names(&mut self, ready: &ReadyList)
-        ensures goes { (c : Command) (n : ℕ) (past : List Act) (s : ℕ) (until : Option ℕ) (at : ℕ)
-            → Hears c n (acts.Turn until at (listed []) false ∷ past) s self.old
-            → Hears c n (acts.Turn until at (listed ready.now.entries) false ∷ past) s self.new }
+    /// The turn that was slept to, at this moment in milliseconds, with all that it names. One that says stop ends the session.
+    pub fn hear_turn(&mut self, now: u64, ready: &ReadyList, stop: bool)
+        requires asleep { (until : Option ℕ) × (wish_of self.old ≡ wishes.Sleep until) }
+        ensures hears { HearsTurn now ready.now stop self.old self.new }
         ensures asked { (p : Place) → has_asked_at self.new p ≡ true → has_asked_at self.old p ≡ true }
     {
-        self.state.hear_names(ready);
+        self.state.hear_turn(now, ready, stop);
         self.wish = self.state.plan();
     }
 

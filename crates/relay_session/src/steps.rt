@@ -1,5 +1,5 @@
 // What each answer makes of the state of a session.
-ghost use Rattle.std.specs.Prelude.{◌≡◌, if◌then◌else◌, ℕ, ◌+◌, ◌<◌, ◌≤◌, ◌||◌, ◌∷◌, ◌++◌, [], List, Option, Some, None, is_some, take, true, false, vec_len};
+ghost use Rattle.std.specs.Prelude.{◌≡◌, ℕ, ◌+◌, ◌<◌, ◌≤◌, ◌||◌, ◌∷◌, ◌++◌, [], List, Option, Some, None, is_some, take, true, false, vec_len};
 ghost use Rattle.relay_model.specs.{Act, ChildEnd as Ending, Why as Cause, Place, same_place, cause, Config as Command, ReadyAt as Entry};
 ghost use Rattle.relay_model.specs.declared.acts.Act.TheVariants as acts;
 ghost use Rattle.relay_model.specs.declared.acts.Why.TheVariants as whys;
@@ -9,7 +9,7 @@ ghost use Rattle.relay_session.specs.declared.wishes.Answer.TheVariants as answe
 ghost use Rattle.relay_session.specs.Wishes.{Fits, FitsRead, act_of, read_act, reaps_at};
 ghost use Rattle.place_openings.specs.{has_asked};
 ghost use Rattle.relay_session.specs.Lanes.{waiting_at};
-ghost use Rattle.relay_session.specs.Transfers.{transfer_act, moves_bytes};
+ghost use Rattle.relay_session.specs.Transfers.{transfer_act};
 
 use crate::states::State;
 use crate::transfers::Transfer;
@@ -110,8 +110,8 @@ impl State {
         if let Wish::Read { place, .. } = wish {
             self.lanes.hear_block(place, block, count);
             self.openings.stay_unmoved();
+            // what passes ends nothing
             self.moved = self.clock;
-            self.ending = self.cause();
         }
     }
 
@@ -212,19 +212,12 @@ impl State {
     {
         self.lanes.hear(self.clock, place, transfer);
         self.openings.stay_unmoved();
-        self.moved = self.moved_by(transfer);
-        self.faulted |= transfer.is_fault();
-        self.ending = self.cause();
-    }
-
-    /// When bytes last passed, or a place was last opened, after the transfer.
-    fn moved_by(&self, transfer: Transfer<'_>) -> u64
-        ensures { result ≡ (if moves_bytes transfer.entry then self.now.clock else self.now.moved) }
-    {
         if transfer.moves_bytes() {
-            self.clock
+            // what passes ends nothing
+            self.moved = self.clock;
         } else {
-            self.moved
+            self.faulted |= transfer.is_fault();
+            self.ending = self.cause();
         }
     }
 
@@ -302,7 +295,7 @@ impl State {
     }
 
     /// The last turn names these halves, and none before them.
-    pub fn hear_names(&mut self, ready: &ReadyList)
+    fn hear_names(&mut self, ready: &ReadyList)
         ensures goes { (c : Command) (past : List Act) (s : ℕ) (until : Option ℕ) (at : ℕ)
             → Heeds c (acts.Turn until at (listed []) false ∷ past) s self.old
             → Heeds c (acts.Turn until at (listed ready.now.entries) false ∷ past) s self.new }
@@ -314,6 +307,22 @@ impl State {
             self.lanes.hear_entry(entry);
         }
         self.ending = self.cause();
+    }
+
+    /// The turn that was slept to, with all that it names, and whether it says stop.
+    pub fn hear_turn(&mut self, at: u64, ready: &ReadyList, stop: bool)
+        ensures goes { (c : Command) (past : List Act) (s : ℕ) (until : Option ℕ) → Ground c past s self.old → Quiet c past s → stop ≡ false
+            → Heeds c (acts.Turn until at (listed ready.now.entries) false ∷ past) s self.new }
+        ensures stops { (c : Command) (n : ℕ) (past : List Act) (s : ℕ) (until : Option ℕ) → Ground c past s self.old → Quiet c past s
+            → stop ≡ true → Fields c n (acts.Turn until at (listed ready.now.entries) true ∷ past) s self.new }
+        ensures over { stop ≡ true → self.new.ending ≡ Some whys.Stopped }
+        ensures asked { (p : Place) → has_asked self.new.openings p ≡ true → has_asked self.old.openings p ≡ true }
+    {
+        self.wake(at);
+        self.hear_names(ready);
+        if stop {
+            self.cut(Why::Stopped);
+        }
     }
 
     /// Ends the session early: at a stop, for want of memory or at the last turn.

@@ -295,9 +295,8 @@ impl Direction {
         if self.is_spent() {
             return Want::Shut(self.how);
         }
-        let read = self.want_to_read(at);
         if self.reads_on() {
-            if let Want::Read(room) = read {
+            if let Want::Read(room) = self.want_to_read(at) {
                 return Want::Read(room);
             }
         }
@@ -307,7 +306,7 @@ impl Direction {
         if self.holds_enough() {
             return Want::Nothing;
         }
-        read
+        self.want_to_read(at)
     }
 
     /// Whether it gathers, was asked since the last turn, and less than a block waits, and less than is gathered: then it
@@ -415,6 +414,14 @@ impl Direction {
         self.asked_in = true;
         self.asked_out = false;
         self.flow.fill(bytes);
+    }
+
+    /// Gives the block that was traded for last back for this one, where none of its bytes wait.
+    pub fn trade_back(&mut self, block: &mut Vec<u8>)
+        ensures same { self.new ≡ self.old }
+        ensures block { vec_len block.new ≡ vec_len block.old }
+    {
+        self.flow.trade_back(block);
     }
 
     /// The first `count` bytes of this block were read. Where they may wait in it, the direction keeps it, and its own takes

@@ -143,9 +143,29 @@ pub fn accept<W: World>(
     }
 }
 
+/// Asks for so many bytes, which are read into the block of the session's that the last ones were written from, where it
+/// traded one for the scratch.
+pub fn read<W: World>(
+    session: &mut Session,
+    world: &mut W,
+    config: &Config,
+    scratch: &mut Vec<u8>,
+    place: Place,
+    at_most: usize,
+) -> Stepped
+    requires reads { WishesRead config.now (W.seen world.old) session.old place at_most }
+    requires some { 0 < at_most }
+    requires within { at_most ≤ vec_len scratch.old }
+    ensures step { StepIs config.now (W.seen world.old) (W.seen world.new) session.old session.new result }
+    ensures scratch { vec_len scratch.new ≡ vec_len scratch.old }
+{
+    session.trade_back(place, scratch);
+    read_front(session, world, config, scratch, place, at_most)
+}
+
 /// Asks for so many bytes, which are read into the front of the scratch. Where the session keeps that block, its own takes
 /// the place of it.
-pub fn read<W: World>(
+fn read_front<W: World>(
     session: &mut Session,
     world: &mut W,
     config: &Config,

@@ -1,4 +1,5 @@
 pub mod Beginnings
+mod Blames
 pub mod Ended
 pub mod Ending
 pub mod Ends
@@ -10,5 +11,6 @@ pub mod OwnCalls
 pub mod Rests
 pub mod Standing
 pub mod Stays
+mod Stops
 pub mod Waited
 pub mod Waits

@@ -23,7 +23,7 @@ use Rattle.relay_session.specs.declared.sessions.Session.{Session}
 use Rattle.relay_session.specs.declared.wishes.Wish.TheVariants as wishes
 use Rattle.relay_session.specs.States.{Sleeps, Wished}
 use Rattle.relay_session.specs.Timers.{session_until}
-use Rattle.relay_session.specs.Sessions.{Stands, Hears, IsGrounded, wish_of, ending_of}
+use Rattle.relay_session.specs.Sessions.{Stands, Hears, IsGrounded, Leaver, wish_of, ending_of}
 use Rattle.relay_session.proofs.Lives.{asleep as unended}
 use Rattle.relay_session.proofs.Plans.{quiet_while}
 use Rattle.relay_laws.specs.Sleeps.{Since, just, foreign, quiet, IsQuiet, IsBefore, RestsUntil}
@@ -33,7 +33,7 @@ use Rattle.session_laws.proofs.Others.{stands_kept, hears_kept, late_kept, sleep
 use Rattle.session_laws.proofs.Grounds.{Near, ground_near}
 use Rattle.session_laws.proofs.Ending.{spreads, stops, forgets}
 use Rattle.session_driver.proofs.Doors.{door_apart}
-use Rattle.session_laws.specs.SessionSets.{Sleeper, Waker, Leaver, Woke, IsSaid, MaySay}
+use Rattle.session_laws.specs.SessionSets.{Sleeper, Waker, Woke, IsSaid, MaySay}
 
 -- ---- sleep
 

@@ -6,9 +6,9 @@ use Rattle.relay_model.specs.declared.acts.Why.TheVariants as whys
 use Rattle.relay_model.specs.declared.acts.Act.TheVariants.{Turn, AcceptFailed, Closed}
 use Rattle.session_direction.specs.{listed}
 use Rattle.relay_laws.specs.{own_entries, IsQuiet}
-use Rattle.relay_session.specs.{Session, session_until, Stands, Hears, IsGrounded, wish_of}
+use Rattle.relay_session.specs.{Session, session_until, Stands, Hears, IsGrounded, Leaver, wish_of}
 use Rattle.relay_session.specs.declared.wishes.Wish.TheVariants as wishes
-use Rattle.session_laws.specs.SessionSets.{Sleeper, Waker, Leaver, Woke, IsSaid, MaySay}
+use Rattle.session_laws.specs.SessionSets.{Sleeper, Waker, Woke, IsSaid, MaySay}
 
 -- ---- sleep
 

@@ -1,5 +1,5 @@
 -- What the sessions of one loop stand for: those that wait, those that are awake, and those that are to leave.
-use Rattle.std.specs.Prelude.{◌≡◌, ℕ, ◌<◌, true, false, List, [], ◌∷◌, Option, Some, None}
+use Rattle.std.specs.Prelude.{◌≡◌, ℕ, ◌<◌, true, false, List, [], ◌∷◌, Option, None}
 use Rattle.relay_model.specs.{Config, Why, Act, turns, memory_said, stop_said, numbers, cause, closed_why}
 use Rattle.relay_model.specs.declared.acts.Why.TheVariants as whys
 use Rattle.relay_model.specs.declared.acts.Act.TheVariants.{Turn}
@@ -22,12 +22,6 @@ pub record Sleeper (c : Config) (n : ℕ) (past : List Act) (s : ℕ) (until : O
 pub record Waker (c : Config) (n : ℕ) (past : List Act) (s : ℕ) (x : Session) : Type 0 where
   pub stands : Stands c n past s x
   pub ending : ending_of x ≡ cause c past s
-  pub unclosed : closed_why c past s ≡ None
-
--- a session that was cut for this reason, and of which nothing was closed yet
-pub record Leaver (c : Config) (n : ℕ) (past : List Act) (s : ℕ) (why : Why) (x : Session) : Type 0 where
-  pub stands : Stands c n past s x
-  pub ending : ending_of x ≡ Some why
   pub unclosed : closed_why c past s ≡ None
 
 -- a wait has returned at this moment that names nothing yet of the session, which heard it

@@ -1,8 +1,10 @@
-// What a session stands for while others act, and while it sleeps: laws, each as the contract of a function that does nothing.
+// Laws of sessions, each as the contract of a function that does nothing: what one stands for while others act and while
+// it sleeps, and what the histories of one alone keep.
 #![tactic(auto)]
 
 mod among_others;
 mod kept;
+mod one_session;
 mod work;
 
 pub use among_others::{
@@ -14,5 +16,9 @@ pub use among_others::{
 pub use kept::{
     begins_after_refusal, end_spreads, ground_is_kept, memory_is_cause, next_begins, sleeps_rest,
     stands_is_kept, stop_is_cause, woken_hears, woken_late, woken_stands,
+};
+pub use one_session::{
+    cause_is_told, failure_is_blamed, held_is_own, rest_is_of_one, stages_tell, stop_is_told,
+    tries_are_counted, unshut_is_open, until_is_of_one,
 };
 pub use work::{ended_must_act, must_act_stays, waited_for_now};

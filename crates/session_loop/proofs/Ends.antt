@@ -28,12 +28,12 @@ use Rattle.relay_session.specs.Blames.{is_failure as fails}
 use Rattle.relay_session.specs.Endings.{Ends}
 use Rattle.relay_session.specs.States.{IsDone}
 use Rattle.relay_session.specs.Told.{told}
-use Rattle.relay_session.specs.Laws.{CauseIsTold, FailureIsBlamed, HeldIsOwn}
+use Rattle.session_laws.specs.OneSession.{CauseIsTold, FailureIsBlamed, HeldIsOwn}
 use Rattle.relay_session.proofs.Held.{nothing_left}
 use Rattle.place_openings.specs.declared.given_up.GivenUp.{GivenUp}
 use Rattle.session_loop.specs.declared.faults.Fault.{Fault}
 use Rattle.relay_session.specs.Told.{told_listening, told_opening}
-use Rattle.relay_session.specs.Laws.{StopIsTold}
+use Rattle.session_laws.specs.OneSession.{StopIsTold}
 use Rattle.session_loop.specs.Courses.{Risen}
 use Rattle.relay_session.specs.Told.{stop_turned}
 use Rattle.session_loop.specs.Answers.{AnswerTells, told_fault, fault_or, faulted, unlistened, unopened, outcome_for}

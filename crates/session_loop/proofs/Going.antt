@@ -1,7 +1,5 @@
 -- How the loop's facts go on from act to act.
-use Rattle.std.proofs.Common.{◌≡◌, inl, ℕ, suc, subst, ◌+◌, ◌-◌, ◌*◌, ◌^◌, ◌<◌, ◌≤◌, Bool, true, false, not, ◌||◌, slice_get, take, List, [], ◌∷◌, ◌++◌, append_assoc, Option, Some, None, option_map, is_some, IfNone, min, refl, ap, sym, ◌∙◌, arith}
-use Rattle.std.proofs.lemmas.List.{take_more}
-use Rattle.std.proofs.lemmas.Option.{slice_get_within, get_or_from_slice_get}
+use Rattle.std.proofs.Common.{◌≡◌, inl, ℕ, suc, subst, ◌+◌, ◌-◌, ◌*◌, ◌^◌, ◌<◌, ◌≤◌, Bool, true, false, not, ◌||◌, List, [], ◌∷◌, ◌++◌, append_assoc, Option, Some, None, option_map, is_some, IfNone, min, refl, ap, sym, ◌∙◌, arith}
 use Rattle.relay_model.specs.declared.acts.Act.{Act}
 use Rattle.relay_model.specs.declared.acts.Act.TheVariants as acts
 use Rattle.relay_model.specs.declared.acts.Why.{Why}

@@ -24,7 +24,7 @@ use Rattle.relay_laws.proofs.Holdings.{moves_formed, moves_running}
 use Rattle.place_openings.specs.declared.given_up.GivenUp.{GivenUp}
 use Rattle.relay_session.specs.Blames.{is_blamed_for}
 use Rattle.relay_session.specs.Endings.{Ends}
-use Rattle.relay_session.specs.Laws.{FailureIsBlamed}
+use Rattle.session_laws.specs.OneSession.{FailureIsBlamed}
 use Rattle.relay_session.specs.States.{IsDone}
 use Rattle.relay_session.specs.Told.{told_listening, told_opening}
 use Rattle.relay_session.proofs.Ended.{failed_door, failed_place, failed_to_listen, failed_to_open}

@@ -1,11 +1,9 @@
 // The turns of a session that is driven: up to a sleep, the sleep, and so on until it is done.
-ghost use Rattle.std.specs.Prelude.{◌≡◌, ℕ, ◌+◌, ◌<◌, ◌≤◌, ◌∷◌, List, Option, true, false, vec_len, IfSome, IfNone};
-ghost use Rattle.relay_model.specs.{Act, Config as Command, copied_list, Legal};
-ghost use Rattle.relay_model.specs.declared.acts.Act.TheVariants as acts;
+ghost use Rattle.std.specs.Prelude.{◌≡◌, ℕ, ◌+◌, ◌<◌, ◌≤◌, List, Option, true, false, vec_len, IfSome, IfNone};
+ghost use Rattle.relay_model.specs.{Act, Config as Command, Legal};
 ghost use Rattle.relay_model.specs.declared.acts.Why.TheVariants as whys;
 ghost use Rattle.exit_status.specs.declared.outcomes.Outcome.TheVariants as outcomes;
-ghost use Rattle.relay_session.specs.declared.wishes.Wish.TheVariants as wishes;
-ghost use Rattle.relay_session.specs.{Stands, wish_of, has_ended, IsDone};
+ghost use Rattle.relay_session.specs.{Stands, has_ended, IsDone};
 ghost use Rattle.world_trait.specs.Seen.{Seen};
 ghost use Rattle.session_loop.specs.Answers.{AnswerTells};
 ghost use Rattle.session_loop.specs.Ended.{EndsWith};
@@ -14,8 +12,8 @@ ghost use Rattle.session_loop.specs.declared.drivers.DriverPause.TheVariants as 
 use crate::drivers::{Driver, DriverPause};
 use crate::outcomes::outcome_for;
 use exit_status::Outcome;
-use relay_model::{Config, ReadyList, Why};
-use relay_session::{Session, cause_is_told, failure_is_blamed, held_is_own, stop_is_told};
+use relay_model::{Config, Why};
+use session_laws::{cause_is_told, failure_is_blamed, held_is_own, stop_is_told};
 use world_trait::{Turned, World};
 
 impl Driver {
@@ -59,7 +57,7 @@ impl Driver {
         match world.wait(until, &mut self.ready) {
             Turned::Turned { at, stop } => {
                 self.made += 1;
-                hear_turn(&mut self.session, at, &self.ready, stop);
+                self.session.hear_turn(at, &self.ready, stop);
                 true
             }
             Turned::Memory => {
@@ -166,19 +164,5 @@ impl Driver {
         let listening = self.session.failed_listening();
         let opening = self.session.failed_opening();
         outcome_for(why, listening, opening, self.fault, self.made)
-    }
-}
-
-/// Hears a turn: its moment, the halves that it names, and whether it says stop.
-fn hear_turn(session: &mut Session, at: u64, ready: &ReadyList, stop: bool)
-    requires { (until : Option ℕ) × (wish_of session.old ≡ wishes.Sleep until) }
-    ensures { (c : Command) (n : ℕ) (past : List Act) (until : Option ℕ) → wish_of session.old ≡ wishes.Sleep until
-        → Stands c n past 0 session.old
-        → Stands c n (acts.Turn until at (copied_list ready.now) stop ∷ past) 0 session.new }
-{
-    session.wake(at);
-    session.hear_names(ready);
-    if stop {
-        session.cut(Why::Stopped);
     }
 }

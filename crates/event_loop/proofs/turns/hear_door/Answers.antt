@@ -1,7 +1,7 @@
 use Rattle.std.proofs.Common.{◌≡◌, refl, take, length, arith}
 use Rattle.std.proofs.Math.Seq.{take-length}
 use Rattle.relay_model.specs.Readiness.{copied_list}
-use Rattle.event_loop.proofs.Hearing.{take_next}
+use Rattle.relay_session.proofs.Naming.{take_next}
 use Rattle.event_loop.proofs.turns.hear_door.Goals as goal
 
 pub loop-i-preserved : goal.loop-i-preserved

@@ -10,7 +10,7 @@ returns-then-has_passed-clause-wants c =
 pub returns-in-Read-clause-wants : goal.returns-in-Read-clause-wants
 returns-in-Read-clause-wants c =
     λ k past s w f clock runs blocks.
-    c.want_to_read-read.ensures.reads k past s w _ f clock runs (sym (c.is_broken.ensures.stands k past s w f) ∙ c.if-is_broken.false) (sym (c.has_passed.ensures.stands k past s w f) ∙ c.if-has_passed.false) c.in-Read.is
+    c.want_to_read.ensures.reads k past s w _ f clock runs (sym (c.is_broken.ensures.stands k past s w f) ∙ c.if-is_broken.false) (sym (c.has_passed.ensures.stands k past s w f) ∙ c.if-has_passed.false) c.in-Read.is
 
 pub returns-then-holds_enough-clause-wants : goal.returns-then-holds_enough-clause-wants
 returns-then-holds_enough-clause-wants c =

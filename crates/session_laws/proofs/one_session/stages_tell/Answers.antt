@@ -1,6 +1,6 @@
 -- How a thing stands follows from its stage.
 use Rattle.relay_session.proofs.Standings.{standing_of}
-use Rattle.relay_session.proofs.laws.stages_tell.Goals as goal
+use Rattle.session_laws.proofs.one_session.stages_tell.Goals as goal
 
 pub returns : goal.returns
 returns c = standing_of

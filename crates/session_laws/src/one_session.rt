@@ -1,5 +1,5 @@
 // What the histories of a command of one session keep, each as the contract of a function that does nothing.
-ghost use Rattle.relay_session.specs.Laws.{StagesTell, UnshutIsOpen, HeldIsOwn, RestIsOfOne, UntilIsOfOne, CauseIsTold, FailureIsBlamed, StopIsTold, TriesAreCounted};
+ghost use Rattle.session_laws.specs.OneSession.{StagesTell, UnshutIsOpen, HeldIsOwn, RestIsOfOne, UntilIsOfOne, CauseIsTold, FailureIsBlamed, StopIsTold, TriesAreCounted};
 
 /// A thing stands for a world as its last opening, listening or closing says.
 pub fn stages_tell()
