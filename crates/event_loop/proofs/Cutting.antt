@@ -21,10 +21,10 @@ use Rattle.session_laws.proofs.Others.{ground_kept}
 use Rattle.world_trait.specs.Seen.{Seen}
 use Rattle.session_driver.specs.Dumpers.{Counted}
 use Rattle.session_laws.specs.SessionSets.{Woke}
-use Rattle.session_loop.specs.Runs.{Run, Ran, stayed, acted}
+use Rattle.session_loop.specs.Runs.{Ran, stayed, acted}
 use Rattle.event_loop.specs.declared.all_sessions.Sessions.{Sessions}
 use Rattle.event_loop.specs.declared.all_sessions.Row.{Row}
-use Rattle.event_loop.specs.Rows.{Has, RowIs, UpRow, SleepsIfLate}
+use Rattle.event_loop.specs.Rows.{Has, RowIs, UpRow}
 use Rattle.event_loop.specs.Courses.{Unsaid, SessionsCourse, HereAt, SomewhereAt, Beside, TakesFirst, TakesNone, NoWork, SameRest, SameButWork, timer_of}
 use Rattle.event_loop.specs.Endings.{MayLeave, MayLeaveThen, MayLeaveRow, MayEnd, RunsOut, CutRow, CutsRow, RowRan, RowEnds, RowRuns, AllQueued, FailedRow, FailedAt, Failed, SomeFailed, EndsRows, EndingRow, Ending, SomeEnding, Once, WorkLives, MayEndAfter}
 use Rattle.event_loop.specs.Paid.{IsBusy, LedOn, EndingPaid, EndsPaid}
@@ -63,7 +63,7 @@ failed_kept c n act past s row f k r =
     record {
       may = record {
         current = λ h. leave_kept c n act past s row.member.session b f k (r.may.current (omega (arith, h, e)));
-        late = λ h. (let t = r.may.late (omega (arith, h, e)) in (t.0, λ new w. leave_kept c n act past s new b f k (t.1 new (subst (λ (at : ℕ). Woke c n s at row.member.session new) m w))));
+        late = λ h. (let t = r.may.late (omega (arith, h, e)) in λ new w. leave_kept c n act past s new b f k (t new (subst (λ (at : ℕ). Woke c n s at row.member.session new) m w)));
       };
       begun = begun_step c act past s b;
       lives = (session_alike c s (act ∷ past) past (begun_step c act past s b) b (passes c s act past f k)).live_same ∙ r.lives;
@@ -95,18 +95,11 @@ failed_taken c n past k work more timer None e r = r
 failed_taken c n past k work more timer (Some row) e (inl (h, r)) = r
 failed_taken c n past k work more timer (Some row) e (inr (absent, o, q)) = absurd (absent (subst (Has k) (sym e) (inl refl)))
 
-late_sleeps : (c : Config) (n : ℕ) (past : List Act) (s made : ℕ) (timer : Option ℕ) (row : Option Row) → turns past ≡ made → FailedAt c n past s timer row → SleepsIfLate made row
-late_sleeps c n past s made timer None e r = tt
-late_sleeps c n past s made timer (Some row) e r = λ h. (r.may.late (omega (arith, h, e))).0
-
 row_at : (c : Config) (n : ℕ) (start now : Seen) (past : List Act) (k : ℕ) (two three : Sessions) → Ending c n start now past two → TakesFirst k two three → FailedAt c n past k (timer_of three k) (row_of three.table k)
 row_at c n start now past k two three e t =
     subst (λ (x : Option ℕ). FailedAt c n past k x (row_of three.table k)) (sym (same_timer k two three t.timers_same))
     (subst (λ (x : Table Row). FailedAt c n past k (timer_of two k) (row_of x k)) (sym t.table_same)
     (failed_taken c n past k two.work.items three.work.items (timer_of two k) (row_of two.table k) t.work_is (e.rows k)))
-
-pub cut_late : (c : Config) (now : Seen) (k : ℕ) (two three : Sessions) → SomeEnding c now two → TakesFirst k two three → SleepsIfLate three.made (row_of three.table k)
-cut_late c now k two three at t = late_sleeps c at.n at.past k three.made (timer_of three k) (row_of three.table k) (at.ending.frame.made_is ∙ sym t.same.made_same) (row_at c at.n at.start now at.past k two three at.ending t)
 
 -- what a session is that was cut: awake, and its cause is the failed accepting
 caused : (c : Config) (n : ℕ) (past : List Act) (s made at : ℕ) (old new : Row) → has_fork c ≡ true → Unsaid past → accept_failed past program_door ≡ true → turns past ≡ made → moment past ≡ at → FailedRow c n past s old → CutRow made at whys.AcceptFailed s (Some old) (Some new) → cause c past s ≡ Some whys.AcceptFailed
@@ -188,7 +181,7 @@ failed_may c n past s why x (inr e) m = record { grounded = m.grounded; ends = i
 row_may : (c : Config) (n : ℕ) (past : List Act) (s : ℕ) (why : Why) (row : Row) → RunsOut c n past why → FailedRow c n past s row → MayLeaveThen c n past s why row
 row_may c n past s why row e r = record {
   current = λ h. failed_may c n past s why row.member.session e (r.may.current h);
-  late = λ h. (let t = r.may.late h in (t.0, λ new w. failed_may c n past s why new e (t.1 new w)));
+  late = λ h new w. failed_may c n past s why new e (r.may.late h new w);
 }
 
 ending_may : (c : Config) (n : ℕ) (past : List Act) (s : ℕ) (why : Why) (work : List ℕ) (timer : Option ℕ) (row : Option Row) → RunsOut c n past why → EndingRow c n past s work timer row → MayLeaveRow c n past s why row

@@ -336,7 +336,7 @@ row_fails c n past s timer None fork u r = r
 row_fails c n past s timer (Some row) fork u r = record {
   may = record {
     current = λ h. waker_fails c n past s row.member.session fork u (r.current h);
-    late = λ h. let t = r.late h in (t.sleeps, λ new w. waker_fails c n past s new fork u (t.woken new w));
+    late = λ h new w. waker_fails c n past s new fork u (r.late h new w);
   };
   begun = r.begun;
   lives = r.lives;

@@ -17,7 +17,7 @@ use Rattle.timer_set.proofs.Told.{got_left, got_removed}
 use Rattle.fork_table.specs.Tables.{Table, row_of, IsFirstLive}
 use Rattle.event_loop.specs.declared.all_sessions.Sessions.{Sessions}
 use Rattle.event_loop.specs.declared.all_sessions.Row.{Row}
-use Rattle.event_loop.specs.Rows.{Has, SleepsIfLate}
+use Rattle.event_loop.specs.Rows.{Has}
 use Rattle.event_loop.specs.Courses.{NoWork, SameButWork, SameButLists, timer_of}
 use Rattle.event_loop.specs.Endings.{Once}
 use Rattle.event_loop.specs.Looks.{AddsDue, AddsParts, CameByName, CameForCause, CameInTime, HasCome, NoneDue}
@@ -104,7 +104,7 @@ twice_heard made at ready (Some x) (Some y) None h o = absurd o
 
 once_heard : (made at : ℕ) (ready : Listed) (before after : Option Row) → UnheardRow made before → HearsOnce made at ready before after → HearsRow made at ready false before after
 once_heard made at ready None None u o = tt
-once_heard made at ready (Some x) (Some y) u o = (o.hears u.0, o.turn_is, o.dumper_same)
+once_heard made at ready (Some x) (Some y) u o = (o.hears u, o.turn_is, o.dumper_same)
 once_heard made at ready None (Some y) u o = absurd o
 once_heard made at ready (Some x) None u o = absurd o
 
@@ -132,20 +132,6 @@ row_named c before mid after i e unheard g door h r = record { rows = λ s. go s
     go s (inr apart) =
         subst (λ b. NamedRow before.made before.clock before.ready b (row_of before.table s) (row_of after.table s)) (sym (names_same c s before.ready.entries i e g (not_own c s e.place (λ k f. apart k))))
         (subst (NamedRow before.made before.clock before.ready (names_own c s (take i before.ready.entries)) (row_of before.table s)) (sym (r.others s apart)) (h.rows s))
-
-named_sleeps : (made at : ℕ) (ready : Listed) (b : Bool) (before mid : Option Row) → UnheardRow made before → NamedRow made at ready b before mid → SleepsIfLate made mid
-named_sleeps made at ready false before mid u h = subst (SleepsIfLate made) (sym h) (unheard_sleeps before u)
-  where
-    unheard_sleeps : (row : Option Row) → UnheardRow made row → SleepsIfLate made row
-    unheard_sleeps None v = tt
-    unheard_sleeps (Some x) v = λ l. v.1
-named_sleeps made at ready true None None u h = tt
-named_sleeps made at ready true (Some x) (Some y) u h = let e = h.1 in λ l. absurd (omega (arith, l, e))
-named_sleeps made at ready true None (Some y) u h = absurd h
-named_sleeps made at ready true (Some x) None u h = absurd h
-
-pub sleeps_there : (c : Config) (before mid : Sessions) (entries : List ReadyAt) (s : ℕ) → AllUnheard before → NamedHeard c entries before mid → SleepsIfLate mid.made (row_of mid.table s)
-sleeps_there c before mid entries s unheard h = subst (λ (m : ℕ). SleepsIfLate m (row_of mid.table s)) (sym h.same.same.made_same) (named_sleeps before.made before.clock before.ready (names_own c s entries) (row_of before.table s) (row_of mid.table s) (unheard s) (h.rows s))
 
 -- nothing was named yet
 pub none_named : (c : Config) (sessions : Sessions) → NamedHeard c [] sessions sessions

@@ -12,9 +12,9 @@ use Rattle.world_trait.specs.Seen.{Seen}
 use Rattle.session_laws.specs.SessionSets.{MaySay}
 use Rattle.session_loop.specs.Pauses.{ends_all}
 use Rattle.event_loop.specs.declared.all_sessions.Sessions.{Sessions}
-use Rattle.event_loop.specs.Courses.{AllSleepIfLate, OwesFor}
+use Rattle.event_loop.specs.Courses.{OwesFor}
 use Rattle.event_loop.specs.Endings.{MayEnd, CutsRows, RunsOut}
-use Rattle.event_loop.proofs.Spreading.{cut_leaves, sleeps_late}
+use Rattle.event_loop.proofs.Spreading.{cut_leaves}
 use Rattle.event_loop.specs.Waited.{LeavingAt, OwesAtExit, StopsAt}
 use Rattle.event_loop.proofs.Rooms.{kept_room}
 
@@ -51,6 +51,3 @@ leaving_at c n start now why before after end cuts =
       room = kept_room _ _ _ f.room same.scratch_same;
       rows = λ s. cut_leaves c n end.past before.made before.clock why s (row_of before.table s) (row_of after.table s) f.made_is (sym f.clock_is) (cuts.rows s) (end.rows s);
     }
-
-pub all_sleep : (c : Config) (n : ℕ) (start now : Seen) (why : Why) (sessions : Sessions) → MayEnd c n start now why sessions → AllSleepIfLate sessions
-all_sleep c n start now why sessions end s = sleeps_late c n end.past s why sessions.made (row_of sessions.table s) end.frame.made_is (end.rows s)

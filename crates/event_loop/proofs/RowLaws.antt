@@ -39,7 +39,7 @@ wakes_kept c n act past s row f k r =
       counted = counted_kept c act past s row.member.dumper f r.counted;
       late = λ h.
           let t = r.late (omega (arith, h, e)) in
-          record { sleeps = t.sleeps; woken = λ new w. stays c n act past s new f k (t.woken new (subst (λ (at : ℕ). Woke c n s at row.member.session new) m w)) };
+          λ new w. stays c n act past s new f k (t new (subst (λ (at : ℕ). Woke c n s at row.member.session new) m w));
     }
 
 -- ---- awake, or asleep
@@ -65,7 +65,7 @@ sleeper_wakes c n past s timer row o counted =
       lives = (through c s timer o.slept past o.begun o.since).live_same ∙ lived;
       counted = counted;
       current = λ h. early c n past s timer row.turn row.member.session o h;
-      late = λ h. record { sleeps = (timer, o.wish); woken = λ new k. woken_late c n past s timer row.turn row.member.session new o h k };
+      late = λ h new k. woken_late c n past s timer row.turn row.member.session new o h k;
     }
 
 pub row_up : (c : Config) (n : ℕ) (past : List Act) (s : ℕ) (work : List ℕ) (timer : Option ℕ) (row : Option Row) → RowIs c n past s work timer row → UpRow c n past s timer row
@@ -103,7 +103,7 @@ pub wakened_awake : (c : Config) (n : ℕ) (past : List Act) (s made at : ℕ) (
 wakened_awake c n past s made at old new e m r h = go (cases_lt old.turn made)
   where
     go : (old.turn < made) ⊎ (made ≤ old.turn) → Waker c n past s new.member.session
-    go (inl b) = (r.late (omega (arith, b, e))).woken new.member.session (subst (λ (k : ℕ). Woke c n s k old.member.session new.member.session) m (h.woken b c n s))
+    go (inl b) = r.late (omega (arith, b, e)) new.member.session (subst (λ (k : ℕ). Woke c n s k old.member.session new.member.session) m (h.woken b c n s))
     go (inr b) = subst (Waker c n past s) (sym (h.kept b)) (r.current (omega (arith, b, e)))
 
 -- ---- a session that a turn doesn't name, and that is to hear it
@@ -118,10 +118,7 @@ due_wakes c n past s until at ready timer row own o counted =
       lives = r.lives;
       counted = counted_by c (Turn until at (copied_list ready) false) past s row.member.dumper row.member.dumper refl refl counted;
       current = λ h. absurd (omega (arith, h, g, e));
-      late = λ h. record {
-        sleeps = (timer, o.wish);
-        woken = λ new w.
-            awake c n (Turn until at (copied_list ready) false ∷ past) s new
-            (others_named c n until at [] ready.entries past s new own (wakes c n until at past s timer row.turn row.member.session new o w));
-      };
+      late = λ h new w.
+          awake c n (Turn until at (copied_list ready) false ∷ past) s new
+          (others_named c n until at [] ready.entries past s new own (wakes c n until at past s timer row.turn row.member.session new o w));
     }

@@ -28,7 +28,7 @@ use Rattle.session_loop.specs.declared.pauses.Pause.TheVariants as pauses
 use Rattle.event_loop.specs.declared.all_sessions.Sessions.{Sessions}
 use Rattle.session_loop.specs.Pauses.{Spreads, ends_all}
 use Rattle.event_loop.specs.declared.all_sessions.Row.{Row}
-use Rattle.event_loop.specs.Rows.{Sleeping, Wakes, Wakened, RowIs, UpRow}
+use Rattle.event_loop.specs.Rows.{Wakes, Wakened, RowIs, UpRow}
 use Rattle.event_loop.specs.Courses.{RowOf, NextIs, OwesFor, Frame, SessionsCourse, CourseAt, HereAt, Beside, SessionsSomewhere, SomewhereAt, Keeps, HasRow, DrainsTo, SetsTimer, TakesFirst, TakesNone, Retires, Settles, SameRest, SameLists, timer_of}
 use Rattle.event_loop.specs.Endings.{MayLeaveRow, MayEnd, RunsOut, OnlyActs, RowRan, RowEnds, RowRuns, MayEndAfter}
 use Rattle.event_loop.proofs.Lists.{has_rest}
@@ -329,13 +329,6 @@ lists_itself sessions = record { work_same = refl; timers_same = refl }
 
 pub lists_then : (one two three : Sessions) → SameLists one two → SameLists two three → SameLists one three
 lists_then one two three a b = record { work_same = b.work_same ∙ a.work_same; timers_same = b.timers_same ∙ a.timers_same }
-
--- a row that is to hear the last turn sleeps
-pub row_late : (c : Config) (now : Seen) (t : ℕ) (sessions : Sessions) (was : Row) → SomewhereAt c now t sessions → HasRow sessions t was → was.turn < sessions.made → Sleeping was.member.session
-row_late c now t sessions was at had b =
-    let r : Wakes c at.n at.past t was = subst (UpRow c at.n at.past t (timer_of sessions t)) had at.course.here in
-    let e = at.course.frame.made_is in
-    (r.late (omega (arith, b, e))).sleeps
 
 pub drains_up : (c : Config) (now : Seen) (t : ℕ) (sessions : Sessions) (was up : Row) → SomewhereAt c now t sessions → HasRow sessions t was → Wakened sessions.made sessions.clock was up → Runs c now up.member
 drains_up c now t sessions was up at had wakened = record { n = at.n; start = at.start; past = at.past; s = t; run = record { run = at.course.frame.run; stands = (up_awake c at.n at.start now at.past t sessions was up at.course had wakened).stands; counted = up_counted c at.n at.start now at.past t sessions was up at.course had wakened; owes = inl at.course.unowed } }

@@ -26,7 +26,7 @@ use Rattle.session_laws.specs.SessionSets.{Waker, Woke}
 use Rattle.session_loop.specs.Pauses.{Spreads, ends_all}
 use Rattle.event_loop.specs.Courses.{Unsaid}
 use Rattle.event_loop.specs.declared.all_sessions.Row.{Row}
-use Rattle.event_loop.specs.Rows.{Wakened, UpRow, SleepsIfLate}
+use Rattle.event_loop.specs.Rows.{Wakened, UpRow}
 use Rattle.event_loop.specs.Endings.{MayLeave, MayLeaveThen, MayLeaveRow, LeavesRow, CutRow, RunsOut}
 
 pub cut_none : (made at : ℕ) (why : Why) (s : ℕ) → CutRow made at why s None None
@@ -141,17 +141,12 @@ pub up_may : (c : Config) (n : ℕ) (past : List Act) (s : ℕ) (why : Why) (tim
 up_may c n past s why timer None e r = r.0
 up_may c n past s why timer (Some row) e r = record {
   current = λ h. waker_may c n past s why row.member.session e (r.current h);
-  late = λ h. let t = r.late h in (t.sleeps, λ new w. waker_may c n past s why new e (t.woken new w));
+  late = λ h new w. waker_may c n past s why new e (r.late h new w);
 }
 
 -- one that has heard the last turn
 pub heard_may : (c : Config) (n : ℕ) (past : List Act) (s : ℕ) (why : Why) (row : Row) → row.turn ≡ turns past → MayLeave c n past s why row.member.session → MayLeaveThen c n past s why row
 heard_may c n past s why row e m = record { current = λ h. m; late = λ h. absurd (omega (arith, h, e)) }
-
--- then it sleeps where it hasn't heard that turn
-pub sleeps_late : (c : Config) (n : ℕ) (past : List Act) (s : ℕ) (why : Why) (made : ℕ) (row : Option Row) → turns past ≡ made → MayLeaveRow c n past s why row → SleepsIfLate made row
-sleeps_late c n past s why made None e m = tt
-sleeps_late c n past s why made (Some row) e m = λ h. (m.late (omega (arith, h, e))).0
 
 -- a row whose session was cut
 pub row_cut : (made at : ℕ) (why : Why) (t : ℕ) (before after : Option Row) (x y z : Row) → before ≡ Some x → after ≡ Some z → Wakened made at x y → z.turn ≡ y.turn → ((c : Config) (n : ℕ) (past : List Act) (s : ℕ) → IsGrounded c past s y.member.session → Ends c n past s why → Stands c n past s z.member.session) → ending_of z.member.session ≡ Some why → z.member.dumper ≡ y.member.dumper → CutRow made at why t before after
@@ -160,7 +155,7 @@ row_cut made at why t before after x y z had has wakened same cut ending counts 
     (subst (CutRow made at why t (Some x)) (sym has) (same ∙ wakened.turn_is, counts ∙ wakened.dumper_same, λ c n past e m may. leaves c n past (brought c n past e m may (cases_lt x.turn made))))
   where
     brought : (c : Config) (n : ℕ) (past : List Act) → turns past ≡ made → moment past ≡ at → MayLeaveThen c n past t why x → (x.turn < made) ⊎ (made ≤ x.turn) → MayLeave c n past t why y.member.session
-    brought c n past e m may (inl b) = (may.late (omega (arith, b, e))).1 y.member.session (subst (λ (k : ℕ). Woke c n t k x.member.session y.member.session) (sym m) (wakened.woken b c n t))
+    brought c n past e m may (inl b) = may.late (omega (arith, b, e)) y.member.session (subst (λ (k : ℕ). Woke c n t k x.member.session y.member.session) (sym m) (wakened.woken b c n t))
     brought c n past e m may (inr b) = subst (MayLeave c n past t why) (sym (wakened.kept b)) (may.current (omega (arith, b, e)))
 
     leaves : (c : Config) (n : ℕ) (past : List Act) → MayLeave c n past t why y.member.session → Leaver c n past t why z.member.session

@@ -40,7 +40,7 @@ use Rattle.event_loop.specs.Rows.{Has, Wakes, UpRow, RowIs}
 use Rattle.event_loop.specs.Courses.{RowOf, NextIs, CountsSessions, Frame, SessionsCourse, SessionsSomewhere, NoWork, SameLists, timer_of}
 use Rattle.event_loop.specs.Endings.{LeavesRow, MayEnd}
 use Rattle.relay_session.specs.Sessions.{HearsTurn}
-use Rattle.event_loop.specs.Turns.{HearsRow, DoorHearsTurn, AllHeard, AsleepRow, AllAsleep, UnheardRow, AllUnheard, NamedRow, HearsNamed, Queued, TakesTurn, names_own}
+use Rattle.event_loop.specs.Turns.{HearsRow, DoorHearsTurn, AllHeard, UnheardRow, AllUnheard, NamedRow, HearsNamed, Queued, TakesTurn, names_own}
 use Rattle.event_loop.specs.Waited.{ShortAt, Exit, LeavingAt, IsWaitInOrder, SleepsRow, Stopping}
 use Rattle.event_loop.proofs.Lists.{has_none}
 use Rattle.event_loop.proofs.Counting.{counted_by}
@@ -110,7 +110,7 @@ unheard_row c n past s made work timer (Some row) e m r =
     let o = (idle_row c n past s work timer row e r).0 in
     let g = turns_grow c s timer o.slept past o.since in
     let k = o.turn_is in
-    (omega (arith, g, k, m), (timer, o.wish))
+    omega (arith, g, k, m)
 
 -- a session that a turn names
 named_wakes : (c : Config) (n : ℕ) (past : List Act) (s made : ℕ) (until : Option ℕ) (at : ℕ) (ready : Listed) (timer : Option ℕ) (old new : Row) → made ≡ suc (turns past) → Sleeper c n past s timer old.turn old.member.session × Counted c past s old.member.dumper → HearsTurn at ready false old.member.session new.member.session × (new.turn ≡ made) × (new.member.dumper ≡ old.member.dumper) → Wakes c n (Turn until at (copied_list ready) false ∷ past) s new
@@ -348,10 +348,3 @@ stopped_all c n start now before after st h =
       room = kept_room _ _ _ t.room same.scratch_same;
       rows = λ s. row_stopped c n st.past s before.made st.until before.clock before.ready (row_of before.table s) (row_of after.table s) t.unsaid.remembered (t.rows s) (h.rows s);
     }
-
-asleep_row : (c : Config) (n : ℕ) (past : List Act) (s : ℕ) (row : Option Row) → SleepsRow c n past s row → AsleepRow row
-asleep_row c n past s None r = tt
-asleep_row c n past s (Some row) r = (r.0, r.2.wish)
-
-pub all_asleep : (c : Config) (n : ℕ) (start now : Seen) (sessions : Sessions) → Stopping c n start now sessions → AllAsleep sessions
-all_asleep c n start now sessions st s = asleep_row c n st.past s (row_of sessions.table s) (st.stopping.rows s)

@@ -12,7 +12,7 @@ use Rattle.session_laws.specs.{Sleeper, Woke}
 use Rattle.session_loop.specs.{ends_all, Ran}
 use Rattle.event_loop.specs.declared.all_sessions.Sessions.{Sessions}
 use Rattle.event_loop.specs.declared.all_sessions.Row.{Row}
-use Rattle.event_loop.specs.Rows.{Sleeping, Has, RowIs}
+use Rattle.event_loop.specs.Rows.{Has, RowIs}
 use Rattle.event_loop.specs.Courses.{Frame, OwesFor, SessionsCourse, HereAt, Beside, SessionsOnward, Keeps, NoWork, SameRest, SameLists, OthersStay, timer_of}
 
 -- a session may be cut for this reason, and nothing of it was closed yet
@@ -24,7 +24,7 @@ pub record MayLeave (c : Config) (n : ℕ) (past : List Act) (s : ℕ) (why : Wh
 -- the same of a session, once it has heard the last turn
 pub record MayLeaveThen (c : Config) (n : ℕ) (past : List Act) (s : ℕ) (why : Why) (row : Row) : Type 0 where
   pub current : turns past ≤ row.turn → MayLeave c n past s why row.member.session
-  pub late : row.turn < turns past → Sleeping row.member.session × ((new : Session) → Woke c n s (moment past) row.member.session new → MayLeave c n past s why new)
+  pub late : row.turn < turns past → (new : Session) → Woke c n s (moment past) row.member.session new → MayLeave c n past s why new
 
 -- the same of the row of a number; where no session has it, one that began holds nothing any more
 abbrev pub MayLeaveRow : Config → ℕ → List Act → ℕ → Why → Option Row → Type 0

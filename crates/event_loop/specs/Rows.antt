@@ -1,8 +1,7 @@
 -- What the row of a session says of it: whether it has heard the last turn, is in the list of work, or sleeps.
 use Rattle.std.specs.Prelude.{◌≡◌, ◌⊎◌, ℕ, ◌<◌, ◌≤◌, true, false, List, [], ◌∷◌, Option, Some, None}
 use Rattle.relay_model.specs.{Act, Config, now as moment, turns, admitted, holds, live, numbers}
-use Rattle.relay_session.specs.{Session, wish_of}
-use Rattle.relay_session.specs.declared.wishes.Wish.TheVariants as wishes
+use Rattle.relay_session.specs.{Session}
 use Rattle.session_driver.specs.{Counted}
 use Rattle.session_laws.specs.{Sleeper, Waker, Woke}
 use Rattle.event_loop.specs.declared.all_sessions.Row.{Row}
@@ -12,14 +11,9 @@ abbrev pub Has : ℕ → List ℕ → Type 0
 Has s [] = ⊥
 Has s (k ∷ ks) = (s ≡ k) ⊎ Has s ks
 
--- the session wishes to sleep
-abbrev pub Sleeping : Session → Type 0
-Sleeping x = (until : Option ℕ) × (wish_of x ≡ wishes.Sleep until)
-
--- a session that sleeps, and that one turn which names nothing of it brings to now
-pub record Tardy (c : Config) (n : ℕ) (past : List Act) (s : ℕ) (x : Session) : Type 0 where
-  pub sleeps : Sleeping x
-  pub woken : (new : Session) → Woke c n s (moment past) x new → Waker c n past s new
+-- a session that one turn which names nothing of it brings to now
+abbrev pub Tardy : Config → ℕ → List Act → ℕ → Session → Type 0
+Tardy c n past s x = (new : Session) → Woke c n s (moment past) x new → Waker c n past s new
 
 -- the session of a row lives, and what it read is counted; it is awake where it has heard the last turn, and else is to
 -- hear one
@@ -46,8 +40,3 @@ pub record Wakened (made at : ℕ) (old new : Row) : Type 0 where
   pub dumper_same : new.member.dumper ≡ old.member.dumper
   pub kept : made ≤ old.turn → new.member.session ≡ old.member.session
   pub woken : old.turn < made → (c : Config) (n : ℕ) (s : ℕ) → Woke c n s at old.member.session new.member.session
-
--- a row whose session is to hear that a turn came sleeps
-abbrev pub SleepsIfLate : ℕ → Option Row → Type 0
-SleepsIfLate made None = Unit {0}
-SleepsIfLate made (Some row) = row.turn < made → Sleeping row.member.session

@@ -9,7 +9,7 @@ use Rattle.fork_table.specs.{row_of}
 use Rattle.relay_laws.specs.{is_own_place}
 use Rattle.event_loop.specs.declared.all_sessions.Sessions.{Sessions}
 use Rattle.event_loop.specs.declared.all_sessions.Row.{Row}
-use Rattle.event_loop.specs.Rows.{Has, Sleeping}
+use Rattle.event_loop.specs.Rows.{Has}
 use Rattle.event_loop.specs.Courses.{OthersStay, SameRest, SameLists, SameButWork, SameButLists, timer_of}
 
 -- the door has heard it, after whatever it stood for
@@ -41,21 +41,12 @@ pub record AllHeard (before after : Sessions) : Type 0 where
   pub rows : (s : ℕ) → HearsRow before.made before.clock before.ready true (row_of before.table s) (row_of after.table s)
   pub same : SameBesides before after
 
--- every session wishes to sleep
-abbrev pub AsleepRow : Option Row → Type 0
-AsleepRow None = Unit {0}
-AsleepRow (Some row) = Sleeping row.member.session
-
--- so each
-abbrev pub AllAsleep : Sessions → Type 0
-AllAsleep sessions = (s : ℕ) → AsleepRow (row_of sessions.table s)
-
 -- ---- a turn that goes on
 
--- every session wishes to sleep, and hasn't heard the last turn
+-- the session of a row hasn't heard the last turn
 abbrev pub UnheardRow : ℕ → Option Row → Type 0
 UnheardRow made None = Unit {0}
-UnheardRow made (Some row) = (row.turn < made) × Sleeping row.member.session
+UnheardRow made (Some row) = row.turn < made
 
 -- so each
 abbrev pub AllUnheard : Sessions → Type 0

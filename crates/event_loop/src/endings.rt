@@ -1,7 +1,5 @@
 // The end of all sessions.
 ghost use Rattle.std.specs.Prelude.{◌≤◌, ◌+◌, OnOk};
-ghost use Rattle.event_loop.specs.Rows.{SleepsIfLate};
-ghost use Rattle.fork_table.specs.{row_of};
 
 use crate::all_sessions::Sessions;
 use crate::rows::wake_row;
@@ -10,13 +8,12 @@ use relay_model::{NoMemory, Why};
 use std::sync::ledger::Ledger;
 
 impl Sessions {
-    ghost use Rattle.event_loop.specs.Courses.{AllSleepIfLate, NoWork, SameButWork};
+    ghost use Rattle.event_loop.specs.Courses.{NoWork, SameButWork};
     ghost use Rattle.event_loop.specs.Closings.{LooksAtRows};
     ghost use Rattle.event_loop.specs.Endings.{CutsRow, CutsRows, AllQueued, WorkLives};
 
     /// Cuts each session for this reason, once it has heard the last turn.
     pub fn cut_rows<L: Ledger>(&mut self, why: Why, steps: &mut Steps<L>)
-        requires { AllSleepIfLate self.old }
         ensures cuts { CutsRows why self.old self.new }
         ensures looks { LooksAtRows self.old steps.old.ticks steps.new.ticks }
     {
@@ -29,7 +26,6 @@ impl Sessions {
 
     /// Cuts the session with this number, if it lives.
     pub fn cut_row<L: Ledger>(&mut self, number: u32, why: Why, steps: &mut Steps<L>)
-        requires { SleepsIfLate self.old.made (row_of self.old.table number) }
         ensures cuts { CutsRow number why self.old self.new }
         ensures looks { steps.new.ticks ≤ steps.old.ticks + 1 }
     {

@@ -1,7 +1,7 @@
 // The sessions of the loop between two turns: those that have work, one after another.
 ghost use Rattle.std.specs.Prelude.{◌≡◌, ◌<◌, ◌≤◌, ◌+◌, length, OnOk};
 ghost use Rattle.fork_table.specs.{IsFirstLive};
-ghost use Rattle.event_loop.specs.Rows.{Wakened, Sleeping};
+ghost use Rattle.event_loop.specs.Rows.{Wakened};
 
 use crate::all_sessions::{Row, Sessions};
 use fork_table::Steps;
@@ -135,7 +135,6 @@ impl Sessions {
 
 /// Has the session hear that a turn came, the last one of these at this moment, where it hasn't yet.
 pub fn wake_row(row: &mut Row, made: u64, at: u64)
-    requires { row.old.turn < made → Sleeping row.old.member.session }
     ensures { Wakened made at row.old row.new }
 {
     if row.turn < made {

@@ -1,7 +1,5 @@
 // What a turn says to the door and to the sessions that it names, or to all where it says stop.
-ghost use Rattle.std.specs.Prelude.{◌≡◌, ℕ, ◌<◌, ◌≤◌, ◌+◌, length, OnOk};
-ghost use Rattle.fork_table.specs.{row_of};
-ghost use Rattle.event_loop.specs.Rows.{Sleeping, SleepsIfLate};
+ghost use Rattle.std.specs.Prelude.{◌<◌, ◌≤◌, ◌+◌, length, OnOk};
 ghost use Rattle.event_loop.specs.Turns.{HeardOnce, DoorHearsTurn};
 
 use crate::all_sessions::{Row, Sessions};
@@ -13,13 +11,12 @@ use std::sync::ledger::Ledger;
 
 impl Sessions {
     ghost use Rattle.event_loop.specs.Closings.{LooksAtRows};
-    ghost use Rattle.event_loop.specs.Turns.{RowHeard, AllHeard, AsleepRow, AllAsleep, AllUnheard, NamedHeard, RowHearsOnce, QueuesNamed, QueuesDue};
+    ghost use Rattle.event_loop.specs.Turns.{RowHeard, AllHeard, AllUnheard, NamedHeard, RowHearsOnce, QueuesNamed, QueuesDue};
     ghost use Rattle.event_loop.specs.Courses.{SameButWork, SameButLists};
     ghost use Rattle.event_loop.specs.Looks.{AddsDue, CameByName, CameInTime, OnlyNamedCame, WorksFew};
 
     /// Has each session hear the last turn, which says stop.
     pub fn stop_all<L: Ledger>(&mut self, steps: &mut Steps<L>)
-        requires { AllAsleep self.old }
         ensures heard { AllHeard self.old self.new }
         ensures looks { LooksAtRows self.old steps.old.ticks steps.new.ticks }
     {
@@ -31,7 +28,6 @@ impl Sessions {
     }
 
     fn stop_row<L: Ledger>(&mut self, number: u32, steps: &mut Steps<L>)
-        requires { AsleepRow (row_of self.old.table number) }
         ensures heard { RowHeard number self.old self.new }
         ensures looks { steps.new.ticks ≤ steps.old.ticks + 1 }
     {
@@ -57,7 +53,6 @@ impl Sessions {
 
     /// Has the session with this number hear it, if it lives and hasn't yet.
     fn hear_row<L: Ledger>(&mut self, number: u32, steps: &mut Steps<L>)
-        requires { SleepsIfLate self.old.made (row_of self.old.table number) }
         ensures heard { RowHearsOnce number self.old self.new }
         ensures looks { steps.new.ticks ≤ steps.old.ticks + 1 }
     {
@@ -100,7 +95,6 @@ impl Sessions {
 
 /// Has the session of this row hear the last turn, if it hasn't yet.
 fn hear_once(row: &mut Row, made: u64, at: u64, ready: &ReadyList)
-    requires { row.old.turn < made → Sleeping row.old.member.session }
     ensures { HeardOnce made at ready.now row.old row.new }
 {
     if row.turn < made {

@@ -18,7 +18,6 @@ use Rattle.std.proofs.lemmas.Bool.{and_parts}
 use Rattle.session_direction.specs.Directions.{IsDirection, WantsRead, WantsWrite}
 use Rattle.session_direction.specs.States.{DirectionState, can_read, can_write}
 use Rattle.relay_model.specs.declared.acts.Act.TheVariants as acts
-use Rattle.relay_laws.proofs.Holdings.{moves_formed}
 use Rattle.session_direction.specs.Directions.{WantsNothing}
 use Rattle.session_direction.specs.Touches.{touches}
 use Rattle.session_direction.proofs.Wanted.{packets_are}
@@ -182,22 +181,6 @@ at_its_place P c past s w p waiting there transfers.WriteNotYet own way may same
 at_its_place P c past s w p waiting there transfers.WriteFailed own way may same step = let k = write_at c s w p own way may.offers.is_output in subst (λ q. P (acts.WriteFault q)) (sym k) (step (subst (λ q. MayTryWrite c past q) k may))
 at_its_place P c past s w p waiting there (transfers.Shut how) own way may same step = let k = write_at c s w p own way may.is_output in subst (λ q. P (acts.Shut q how)) (sym k) (step (subst (λ q. MayShut c past q how) k may))
 at_its_place P c past s w p waiting there (transfers.ShutFailed how) own way may same step = let k = write_at c s w p own way may.is_output in subst (λ q. P (acts.ShutFault q how)) (sym k) (step (subst (λ q. MayShut c past q how) k may))
-
--- a direction that may transfer is formed
-moving_of : (c : Config) (past : List Act) (p : Place) (waiting : List ℕ) (t : Transfer) → MayTransfer c past p waiting t → is_going c past p.session (way_of p t) ≡ true
-moving_of c past p waiting (transfers.Read bytes) may = may.asks.moving
-moving_of c past p waiting transfers.ReadEmpty may = may.asks.moving
-moving_of c past p waiting transfers.ReadEnd may = may.asks.moving
-moving_of c past p waiting transfers.ReadNotYet may = may.asks.moving
-moving_of c past p waiting transfers.ReadFailed may = may.asks.moving
-moving_of c past p waiting (transfers.Wrote count) may = may.0.offers.moving
-moving_of c past p waiting transfers.WriteNotYet may = may.offers.moving
-moving_of c past p waiting transfers.WriteFailed may = may.offers.moving
-moving_of c past p waiting (transfers.Shut how) may = may.moving
-moving_of c past p waiting (transfers.ShutFailed how) may = may.moving
-
-pub formed_way : (c : Config) (past : List Act) (s : ℕ) (w : Way) (p : Place) (waiting : List ℕ) (t : Transfer) → p.session ≡ s → way_of p t ≡ w → MayTransfer c past p waiting t → formed c w ≡ true
-formed_way c past s w p waiting t own way may = subst (λ v. formed c v ≡ true) way (moves_formed c past p.session (way_of p t) (moving_of c past p waiting t may))
 
 -- where one of two falls and the other stays, the sum falls
 pub fewer_left : (a a' b b' : ℕ) → a' < a → b' ≡ b → a' + b' < a + b

@@ -457,20 +457,28 @@ childless_step c n past s old new f same openings lanes move fault ending fewer 
 
 -- ---- turns
 
+pub ground_step : (c : Config) (past later : List Act) (s : ℕ) (old mid : State) → Ground c past s old → s < numbers c later → (has_fork c ≡ true → closed_why c later s ≡ None → held later (home c s) ≡ true) → AreOpenings c later s mid.openings → AreLanes c later s mid.lanes → mid.clock ≡ now later → mid.moved ≡ moved_at c later s → mid.faulted ≡ fault_stands c later s →
+    mid.closing ≡ old.closing → mid.idle ≡ old.idle → mid.sloppy ≡ old.sloppy → Ground c later s mid
+ground_step c past later s old mid o begun home_held openings lanes clock move fault closing idle sloppy =
+    record { fit = o.fit; begun = begun; home_held = home_held; openings_are = openings; lanes_are = lanes; clock_is = clock; moved_is = move; faulted_is = fault; closing_is = closing ∙ o.closing_is; idle_is = idle ∙ o.idle_is; sloppy_is = sloppy ∙ o.sloppy_is }
+
+-- what ends it has been worked out
+pub heeds_now : (c : Config) (past : List Act) (s : ℕ) (mid new : State) → Ground c past s mid → EndsAs mid new → Quiet c past s → (Ground c past s mid → Quiet c past s → new.ending ≡ cause c past s) → Heeds c past s new
+heeds_now c past s mid new g again q ending = record { ground = ground_again c past s mid new g again; quiet = q; ending_is = ending g q }
+
 pub heeds_step : (c : Config) (past later : List Act) (s : ℕ) (old mid new : State) → Ground c past s old → s < numbers c later → (has_fork c ≡ true → closed_why c later s ≡ None → held later (home c s) ≡ true) → AreOpenings c later s mid.openings → AreLanes c later s mid.lanes → mid.clock ≡ now later → mid.moved ≡ moved_at c later s → mid.faulted ≡ fault_stands c later s →
     mid.closing ≡ old.closing → mid.idle ≡ old.idle → mid.sloppy ≡ old.sloppy → EndsAs mid new → Quiet c later s → (Ground c later s mid → Quiet c later s → new.ending ≡ cause c later s) → Heeds c later s new
 heeds_step c past later s old mid new o begun home_held openings lanes clock move fault closing idle sloppy again q ending =
-    let g : Ground c later s mid = record { fit = o.fit; begun = begun; home_held = home_held; openings_are = openings; lanes_are = lanes; clock_is = clock; moved_is = move; faulted_is = fault; closing_is = closing ∙ o.closing_is; idle_is = idle ∙ o.idle_is; sloppy_is = sloppy ∙ o.sloppy_is } in
-    record { ground = ground_again c later s mid new g again; quiet = q; ending_is = ending g q }
+    heeds_now c later s mid new (ground_step c past later s old mid o begun home_held openings lanes clock move fault closing idle sloppy) again q ending
 
 -- a stop that the last turn tells of
-pub stop_step : (c : Config) (n : ℕ) (past : List Act) (s : ℕ) (until : Option ℕ) (at : ℕ) (names : List ReadyAt) (old new : State) → Heeds c (acts.Turn until at (listed names) false ∷ past) s old →
+pub stop_step : (c : Config) (n : ℕ) (past : List Act) (s : ℕ) (until : Option ℕ) (at : ℕ) (names : List ReadyAt) (old new : State) → Ground c (acts.Turn until at (listed names) false ∷ past) s old → Quiet c (acts.Turn until at (listed names) false ∷ past) s →
     AreOpenings c (acts.Turn until at (listed names) true ∷ past) s new.openings → AreLanes c (acts.Turn until at (listed names) true ∷ past) s new.lanes → Steady old new → new.moved ≡ old.moved → new.faulted ≡ old.faulted → new.ending ≡ Some whys.Stopped →
     Fields c n (acts.Turn until at (listed names) true ∷ past) s new
-stop_step c n past s until at names old new h openings lanes same move fault ending =
+stop_step c n past s until at names old new g quiet openings lanes same move fault ending =
     record {
-      ground = ground_after c (acts.Turn until at (listed names) false ∷ past) (acts.Turn until at (listed names) true ∷ past) s old new h.ground h.ground.begun h.ground.home_held refl same openings lanes (move ∙ h.ground.moved_is) (fault ∙ h.ground.faulted_is);
-      ending_is = subst (EndingIs c n (acts.Turn until at (listed names) true ∷ past) s) (sym ending) (inl (by_stop c (acts.Turn until at (listed names) true ∷ past) s h.quiet.unclosed h.quiet.remembered refl));
+      ground = ground_after c (acts.Turn until at (listed names) false ∷ past) (acts.Turn until at (listed names) true ∷ past) s old new g g.begun g.home_held refl same openings lanes (move ∙ g.moved_is) (fault ∙ g.faulted_is);
+      ending_is = subst (EndingIs c n (acts.Turn until at (listed names) true ∷ past) s) (sym ending) (inl (by_stop c (acts.Turn until at (listed names) true ∷ past) s quiet.unclosed quiet.remembered refl));
     }
 
 -- an early end

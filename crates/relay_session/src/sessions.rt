@@ -212,7 +212,6 @@ impl Session {
 
     /// The turn that was slept to, at this moment in milliseconds, with all that it names. One that says stop ends the session.
     pub fn hear_turn(&mut self, now: u64, ready: &ReadyList, stop: bool)
-        requires asleep { (until : Option ℕ) × (wish_of self.old ≡ wishes.Sleep until) }
         ensures hears { HearsTurn now ready.now stop self.old self.new }
         ensures asked { (p : Place) → has_asked_at self.new p ≡ true → has_asked_at self.old p ≡ true }
     {

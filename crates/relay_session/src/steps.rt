@@ -276,10 +276,19 @@ impl State {
             → Heeds c (acts.Turn until at (listed []) false ∷ past) s self.new }
         ensures asked { (p : Place) → has_asked self.new.openings p ≡ true → has_asked self.old.openings p ≡ true }
     {
+        self.begin_turn(at);
+        self.ending = self.cause();
+    }
+
+    /// The same, before it is worked out whether anything ends the session.
+    fn begin_turn(&mut self, at: u64)
+        ensures goes { (c : Command) (past : List Act) (s : ℕ) (until : Option ℕ) → Ground c past s self.old
+            → Ground c (acts.Turn until at (listed []) false ∷ past) s self.new }
+        ensures asked { (p : Place) → has_asked self.new.openings p ≡ true → has_asked self.old.openings p ≡ true }
+    {
         self.openings.wake();
         self.lanes.wake();
         self.clock = at;
-        self.ending = self.cause();
     }
 
     /// The last turn names this half too.
@@ -297,8 +306,8 @@ impl State {
     /// The last turn names these halves, and none before them.
     fn hear_names(&mut self, ready: &ReadyList)
         ensures goes { (c : Command) (past : List Act) (s : ℕ) (until : Option ℕ) (at : ℕ)
-            → Heeds c (acts.Turn until at (listed []) false ∷ past) s self.old
-            → Heeds c (acts.Turn until at (listed ready.now.entries) false ∷ past) s self.new }
+            → Ground c (acts.Turn until at (listed []) false ∷ past) s self.old
+            → Ground c (acts.Turn until at (listed ready.now.entries) false ∷ past) s self.new }
         ensures asked { (p : Place) → has_asked self.new.openings p ≡ true → has_asked self.old.openings p ≡ true }
     {
         for i in 0..ready.len() {
@@ -306,7 +315,6 @@ impl State {
             self.openings.hear_entry(entry);
             self.lanes.hear_entry(entry);
         }
-        self.ending = self.cause();
     }
 
     /// The turn that was slept to, with all that it names, and whether it says stop.
@@ -318,17 +326,20 @@ impl State {
         ensures over { stop ≡ true → self.new.ending ≡ Some whys.Stopped }
         ensures asked { (p : Place) → has_asked self.new.openings p ≡ true → has_asked self.old.openings p ≡ true }
     {
-        self.wake(at);
+        self.begin_turn(at);
         self.hear_names(ready);
         if stop {
             self.cut(Why::Stopped);
+        } else {
+            self.ending = self.cause();
         }
     }
 
     /// Ends the session early: at a stop, for want of memory or at the last turn.
     pub fn cut(&mut self, why: Why)
         ensures stop { (c : Command) (n : ℕ) (past : List Act) (s : ℕ) (until : Option ℕ) (at : ℕ) (names : List Entry)
-            → Heeds c (acts.Turn until at (listed names) false ∷ past) s self.old → why ≡ whys.Stopped
+            → Ground c (acts.Turn until at (listed names) false ∷ past) s self.old
+            → Quiet c (acts.Turn until at (listed names) false ∷ past) s → why ≡ whys.Stopped
             → Fields c n (acts.Turn until at (listed names) true ∷ past) s self.new }
         ensures early { (c : Command) (n : ℕ) (past : List Act) (s : ℕ) → Ground c past s self.old → Ends c n past s why
             → Fields c n past s self.new }

@@ -1,10 +1,6 @@
-use Rattle.std.proofs.Common.{refl, sym, subst}
-use Rattle.event_loop.specs.Rows.{SleepsIfLate}
+use Rattle.std.proofs.Common.{refl, sym}
 use Rattle.event_loop.proofs.Spreading.{row_cut}
 use Rattle.event_loop.proofs.all_sessions.Sessions.cut_row.Goals as goal
-
-pub wake_row-requires : goal.wake_row-requires
-wake_row-requires g c = subst (SleepsIfLate c.args.self.now.made) (sym c.in-Some.ensures.value) c.requires
 
 pub returns-in-Some-clause-cuts : goal.returns-in-Some-clause-cuts
 returns-in-Some-clause-cuts g c =

@@ -1,7 +1,4 @@
-use Rattle.std.proofs.Common.{sym, subst, ℕ, arith}
-use Rattle.event_loop.specs.Rows.{SleepsIfLate}
 use Rattle.event_loop.specs.Endings.{CutRow}
-use Rattle.fork_table.specs.Tables.{row_of}
 use Rattle.event_loop.proofs.RowRuns.{rest_itself, rest_then, lists_itself, lists_then}
 use Rattle.event_loop.proofs.LivingRows.{looks_first, looks_next}
 use Rattle.event_loop.proofs.RowLoops.{rows_first, rows_next}
@@ -10,11 +7,6 @@ use Rattle.event_loop.proofs.all_sessions.Sessions.cut_rows.Goals as goal
 
 pub loop-next-init : goal.loop-next-init
 loop-next-init g c = record { rows = rows_first (CutRow c.args.self.now.made c.args.self.now.clock c.args.why) (cut_none c.args.self.now.made c.args.self.now.clock c.args.why) c.args.self.now _ c.first_from-next.ensures; same = rest_itself c.args.self.now; lists = lists_itself c.args.self.now; looks = looks_first c.args.self.now _ _ c.first_from-next.ensures }
-
-pub cut_row-requires : goal.cut_row-requires
-cut_row-requires g c =
-    let r = rw c.in-Some.is at c.loop-next.invariant.rows in
-    subst (λ (m : ℕ). SleepsIfLate m (row_of c.loop-next.self.table c.in-Some.number)) (sym c.loop-next.invariant.same.made_same) (subst (SleepsIfLate c.args.self.now.made) (sym (r.1 c.in-Some.number (omega arith))) (c.requires c.in-Some.number))
 
 pub loop-next-preserved : goal.loop-next-preserved
 loop-next-preserved g c = record {

@@ -1,9 +1,6 @@
 use Rattle.std.proofs.Common.{refl, sym}
 use Rattle.event_loop.proofs.all_sessions.Sessions.drain_row.Goals as goal
-use Rattle.event_loop.proofs.RowRuns.{drains_up, row_late}
-
-pub wake_row-requires : goal.wake_row-requires
-wake_row-requires g c = row_late c.args.config.now _ c.args.number c.args.self.now c.in-Some.row.now c.requires.course (sym c.in-Some.ensures.value)
+use Rattle.event_loop.proofs.RowRuns.{drains_up}
 
 pub drain-requires-clause-runs : goal.drain-requires-clause-runs
 drain-requires-clause-runs g c = drains_up c.args.config.now _ c.args.number c.args.self.now c.in-Some.row.now c.wake_row.new.row c.requires.course (sym c.in-Some.ensures.value) c.wake_row.ensures

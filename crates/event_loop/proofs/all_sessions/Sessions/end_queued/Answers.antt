@@ -1,13 +1,10 @@
 use Rattle.std.proofs.Common.{◌∙◌}
-use Rattle.event_loop.proofs.Cutting.{cut_late, some_cut, some_on, lives_on, ends_first, ends_next, ends_by, ends_done}
+use Rattle.event_loop.proofs.Cutting.{some_cut, some_on, lives_on, ends_first, ends_next, ends_by, ends_done}
 use Rattle.event_loop.proofs.RowRuns.{fewer_works, rest_itself, rest_then}
 use Rattle.event_loop.proofs.all_sessions.Sessions.end_queued.Goals as goal
 
 pub loop-number-init : goal.loop-number-init
 loop-number-init g c = record { ends = ends_first c.args.config.now _ _ c.args.self.now; lives = c.requires.lives; same = rest_itself c.args.self.now }
-
-pub cut_row-requires : goal.cut_row-requires
-cut_row-requires g c = cut_late c.args.config.now _ c.in-Some.number c.loop-number.self c.take_work.new.self (some_on c.args.config.now _ _ _ _ c.args.self.now c.loop-number.self c.requires.ending c.loop-number.invariant.ends) c.in-Some.ensures
 
 pub run_row-requires : goal.run_row-requires
 run_row-requires g c = record { course = some_cut c.args.config.now _ c.in-Some.number c.loop-number.self c.take_work.new.self c.cut_row.new.self (some_on c.args.config.now _ _ _ _ c.args.self.now c.loop-number.self c.requires.ending c.loop-number.invariant.ends) c.in-Some.ensures c.cut_row.ensures.cuts }

@@ -1,14 +1,11 @@
-use Rattle.std.proofs.Common.{sym, ap, ◌∙◌, take, slice_get, arith}
+use Rattle.std.proofs.Common.{sym, ap, ◌∙◌, slice_get, arith}
 use Rattle.relay_model.specs.Readiness.{Listed}
-use Rattle.event_loop.proofs.Hearing.{none_named, door_named, row_named, sleeps_there}
+use Rattle.event_loop.proofs.Hearing.{none_named, door_named, row_named}
 use Rattle.event_loop.proofs.all_sessions.Sessions.hear_named.Goals.{then-not-is_program_door, else-not-is_program_door}
 use Rattle.event_loop.proofs.all_sessions.Sessions.hear_named.Goals as goal
 
 pub loop-i-init : goal.loop-i-init
 loop-i-init g c = record { heard = none_named c.args.config.now c.args.self.now; looks = omega arith }
-
-pub hear_row-requires : goal.hear_row-requires
-hear_row-requires g c = sleeps_there c.args.config.now c.args.self.now c.loop-i.self (take c.loop-i.i c.args.self.now.ready.entries) c.get.result.place.session c.requires c.loop-i.invariant.heard
 
 pub loop-i-preserved : goal.loop-i-preserved
 loop-i-preserved g c =

@@ -1,5 +1,5 @@
-use Rattle.std.proofs.Common.{true, sym, subst, arith}
-use Rattle.event_loop.specs.Turns.{HearsRow, AsleepRow}
+use Rattle.std.proofs.Common.{true}
+use Rattle.event_loop.specs.Turns.{HearsRow}
 use Rattle.event_loop.proofs.LivingRows.{looks_first, looks_next}
 use Rattle.event_loop.proofs.RowLoops.{rows_first}
 use Rattle.event_loop.proofs.Hearing.{heard_none, rows_heard_next, besides_itself, besides_then}
@@ -11,9 +11,6 @@ loop-next-init g c = record {
   same = besides_itself c.args.self.now;
   looks = looks_first c.args.self.now _ _ c.first_from-next.ensures;
 }
-
-pub stop_row-requires : goal.stop_row-requires
-stop_row-requires g c = let r = rw c.in-Some.is at c.loop-next.invariant.rows in subst AsleepRow (sym (r.1 c.in-Some.number (omega arith))) (c.requires c.in-Some.number)
 
 pub loop-next-preserved : goal.loop-next-preserved
 loop-next-preserved g c =

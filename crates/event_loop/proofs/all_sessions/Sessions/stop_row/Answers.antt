@@ -1,10 +1,6 @@
-use Rattle.std.proofs.Common.{refl, sym, subst, true}
-use Rattle.event_loop.specs.Turns.{AsleepRow}
+use Rattle.std.proofs.Common.{refl, sym, true}
 use Rattle.event_loop.proofs.Hearing.{row_hears}
 use Rattle.event_loop.proofs.all_sessions.Sessions.stop_row.Goals as goal
-
-pub hear_turn-requires : goal.hear_turn-requires
-hear_turn-requires g c = record { asleep = subst AsleepRow (sym c.in-Some.ensures.value) c.requires }
 
 pub returns-in-Some-clause-heard : goal.returns-in-Some-clause-heard
 returns-in-Some-clause-heard g c =

@@ -5,7 +5,7 @@ use Rattle.relay_session.proofs.sessions.Session.cut.Goals as goal
 
 pub returns-clause-stop : goal.returns-clause-stop
 returns-clause-stop c = λ k n past s until at names h e.
-    stands_by k n _ s _ _ (c.cut.ensures.stop k n past s until at names h.heeds e) (λ p f. c.plan-self.ensures k n p s f)
+    stands_by k n _ s _ _ (c.cut.ensures.stop k n past s until at names h.heeds.ground h.heeds.quiet e) (λ p f. c.plan-self.ensures k n p s f)
 
 pub returns-clause-limit : goal.returns-clause-limit
 returns-clause-limit c = λ k n past s st live t r e.

@@ -4,9 +4,9 @@ use Rattle.session_direction.specs.Directions.{listed}
 use Rattle.relay_session.proofs.states.State.cut.Goals as goal
 
 pub returns-clause-stop : goal.returns-clause-stop
-returns-clause-stop c = λ k n past s until at names h e.
-    stop_step k n past s until at names c.args.self.now _ h
-    (c.stay_unmoved.ensures.stopped k past s until at (listed names) h.ground.openings_are)
-    (c.stay.ensures.stopped k past s until at (listed names) h.ground.lanes_are)
+returns-clause-stop c = λ k n past s until at names g q e.
+    stop_step k n past s until at names c.args.self.now _ g q
+    (c.stay_unmoved.ensures.stopped k past s until at (listed names) g.openings_are)
+    (c.stay.ensures.stopped k past s until at (listed names) g.lanes_are)
     (record { clock_same = refl; closing_same = refl; idle_same = refl; sloppy_same = refl })
     refl refl (ap Some e)

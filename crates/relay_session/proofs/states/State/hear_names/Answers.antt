@@ -1,8 +1,8 @@
-use Rattle.std.proofs.Common.{◌≡◌, refl, ◌∙◌, take, length, [], ◌∷◌, false, arith}
+use Rattle.std.proofs.Common.{◌≡◌, ◌∙◌, take, length, [], ◌∷◌, false, arith}
 use Rattle.std.proofs.Math.Seq.{take-length}
 use Rattle.relay_model.specs.declared.acts.Act.TheVariants as acts
 use Rattle.relay_session.proofs.Naming.{HasNamed, take_next}
-use Rattle.relay_session.proofs.StepLemmas.{heeds_step, quiet_names}
+use Rattle.relay_session.proofs.StepLemmas.{ground_step}
 use Rattle.session_direction.specs.Directions.{listed}
 use Rattle.relay_session.proofs.states.State.hear_names.Goals as goal
 
@@ -27,14 +27,11 @@ returns-clause-goes c =
     let entries = c.args.ready.now.entries in
     let e : c.loop-i.i ≡ length entries = omega arith in
     let named : HasNamed entries c.args.self.now c.loop-i.self = rw (e, take-length entries) at c.loop-i.invariant in
-    λ k past s until at h.
-    heeds_step k (acts.Turn until at (listed []) false ∷ past) (acts.Turn until at (listed entries) false ∷ past) s c.args.self.now c.loop-i.self _ h.ground h.ground.begun h.ground.home_held
-    (named.openings k past s until at h.ground.openings_are)
-    (named.lanes k past s until at h.ground.lanes_are)
-    (named.clock_same ∙ h.ground.clock_is) (named.moved_same ∙ h.ground.moved_is) (named.faulted_same ∙ h.ground.faulted_is) named.closing_same named.idle_same named.sloppy_same
-    (record { openings_same = refl; lanes_same = refl; clock_same = refl; moved_same = refl; faulted_same = refl; closing_same = refl; idle_same = refl; sloppy_same = refl })
-    (quiet_names k past s until at [] entries h.quiet)
-    (λ g r. c.cause-self.ensures k _ s g r)
+    λ k past s until at g.
+    ground_step k (acts.Turn until at (listed []) false ∷ past) (acts.Turn until at (listed entries) false ∷ past) s c.args.self.now c.loop-i.self g g.begun g.home_held
+    (named.openings k past s until at g.openings_are)
+    (named.lanes k past s until at g.lanes_are)
+    (named.clock_same ∙ g.clock_is) (named.moved_same ∙ g.moved_is) (named.faulted_same ∙ g.faulted_is) named.closing_same named.idle_same named.sloppy_same
 
 pub returns-clause-asked : goal.returns-clause-asked
 returns-clause-asked c = c.loop-i.invariant.asked
