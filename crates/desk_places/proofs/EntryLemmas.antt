@@ -1,5 +1,5 @@
 -- What a place stands on after a change of the table of entries.
-use Rattle.std.proofs.Common.{◌≡◌, ℕ, zero, suc, slice_get, get_or, set, take, drop, ◌+◌, ◌-◌, ◌≤◌, ◌<◌, nat_lt, Bool, true, false, not, ◌||◌, List, [], ◌∷◌, ◌++◌, length, filter, Option, None, Some, is_some, MatchOption, position, option_map, refl, sym, ap, subst, ◌∙◌, arith, if◌then◌else◌}
+use Rattle.std.proofs.Common.{◌≡◌, ℕ, zero, suc, slice_get, get_or, set, take, drop, ◌+◌, ◌-◌, ◌≤◌, ◌<◌, nat_lt, Bool, true, false, not, ◌&&◌, ◌||◌, List, [], ◌∷◌, ◌++◌, length, filter, Option, None, Some, is_some, MatchOption, position, option_map, refl, sym, ap, subst, ◌∙◌, arith, if◌then◌else◌}
 use Rattle.std.specs.List.{insert, position_or_len}
 use Rattle.std.specs.List.Sorted.{IsPartitionPoint, IsPartitionedBy}
 use Rattle.std.proofs.lemmas.List.{length-drop, length-set, take_all}
@@ -19,7 +19,7 @@ use Rattle.world_trait.specs.declared.tables.Standing.TheVariants as standings
 use Rattle.port_table.specs.Bases.{is_standard}
 use Rattle.port_table.specs.declared.bases.Base.{Base}
 use Rattle.desk_places.specs.declared.places.PlaceEntry.{PlaceEntry}
-use Rattle.desk_places.specs.PlaceTables.{entry_at, base_at, hold_by, hold_at, base_by, half_disarmed, with_half, AreInOrder, AreListed, IsFirstOf, IsStartOf, is_listed, listed_so, MarksEntry, PutsEntry, SetsEntry, SameStanding, SameHold}
+use Rattle.desk_places.specs.PlaceTables.{entry_at, base_at, hold_by, hold_at, base_by, half_disarmed, is_armed, with_half, AreInOrder, AreListed, IsFirstOf, IsStartOf, is_listed, listed_so, MarksEntry, PutsEntry, SetsEntry, SameStanding, SameHold}
 use Rattle.desk_places.proofs.PlaceLemmas.{same_place-eq, same_place-same, false_unless, apart, earlier_apart}
 
 -- ---- the entry of a place after a change
@@ -377,6 +377,19 @@ marks_still xs s half disarmed at stands = record {
   standing = λ p. refl;
   len = refl;
 }
+
+-- a half that is armed and marked as armed
+both_off : (reading writing : Bool) → (not reading && not writing) ≡ true → (reading ≡ false) × (writing ≡ false)
+both_off true writing e = absurd cc
+both_off false true e = absurd cc
+both_off false false e = (refl, refl)
+
+armed_half : (half : Half) (s : PlaceEntry) → is_armed s ≡ true → half_disarmed half (Some s) ≡ false
+armed_half ToRead s e = (both_off s.reading_disarmed s.writing_disarmed e).0
+armed_half ToWrite s e = (both_off s.reading_disarmed s.writing_disarmed e).1
+
+pub marks_armed : (xs : List PlaceEntry) (s : PlaceEntry) (half : Half) (disarmed : Bool) → entry_at xs s.place ≡ Some s → is_armed s ≡ true → disarmed ≡ false → MarksEntry s.place half disarmed xs xs
+marks_armed xs s half disarmed at armed off = marks_still xs s half disarmed at (armed_half half s armed ∙ sym off)
 
 -- ---- a place that is held has an entry
 

@@ -18,7 +18,7 @@ use Rattle.port_table.specs.declared.bases.Base.TheVariants as bases
 use Rattle.desk_places.specs.declared.places.PlaceEntry.{PlaceEntry}
 use Rattle.desk_places.specs.Standing.{IsSound, IsSoundBut, heeds, is_entered, is_heeded, is_quiet, may_tell, stands_on, tells}
 use Rattle.desk_places.specs.Keys.{KeyTable, is_in}
-use Rattle.desk_places.specs.PlaceTables.{entry_at, base_at, with_half, SetsEntry}
+use Rattle.desk_places.specs.PlaceTables.{entry_at, base_at, is_armed, with_half, SetsEntry}
 use Rattle.desk_places.proofs.PlaceLemmas.{same_place-eq, same_place-same}
 
 -- ---- tests and facts
@@ -280,6 +280,23 @@ heeds_standard s keys bases.Output made none = refl
 heeds_standard s keys bases.Both made none = refl
 heeds_standard s keys bases.Errors made none = refl
 
+quiet_armed_both : (reading writing may_read may_write : Bool) → (not reading && not writing) ≡ true → (not (reading && may_read) && not (writing && may_write)) ≡ true
+quiet_armed_both true writing may_read may_write e = absurd cc
+quiet_armed_both false true may_read may_write e = absurd cc
+quiet_armed_both false false may_read may_write e = refl
+
+heeded_armed_both : (s : PlaceEntry) (key : ℕ) (keys : List ℕ) (slot : Option EntrySeen) → is_armed s ≡ true → is_heeded s key keys slot ≡ true
+heeded_armed_both s key keys None armed = refl
+heeded_armed_both s key keys (Some entry) armed = listed_or (is_in key keys) s key keys entry.port refl (λ no. quiet_armed_both s.reading_disarmed s.writing_disarmed (may_tell ToRead entry.port) (may_tell ToWrite entry.port) armed)
+
+-- an entry with both halves armed, whatever is listed
+pub heeds_armed_both : (s : PlaceEntry) (keys : List ℕ) (base : Base) (made : Slab EntrySeen) → is_armed s ≡ true → heeds made keys s base ≡ true
+heeds_armed_both s keys (bases.Made key) made armed = heeded_armed_both s key keys (get made key) armed
+heeds_armed_both s keys bases.Input made armed = refl
+heeds_armed_both s keys bases.Output made armed = refl
+heeds_armed_both s keys bases.Both made armed = refl
+heeds_armed_both s keys bases.Errors made armed = refl
+
 module _ (xs : List PlaceEntry) (place : Place) (made : Slab EntrySeen) (listed listed' : KeyTable) (covered : listed'.covered ≡ listed.covered) (but : IsSoundBut place xs made listed) where
   still_entered : (p : Place) → EnteredSlot made listed'.covered p (entry_at xs p)
   still_entered p = subst (λ c. EnteredSlot made c p (entry_at xs p)) (sym covered) (but.entered p)
@@ -303,6 +320,10 @@ module _ (xs : List PlaceEntry) (place : Place) (made : Slab EntrySeen) (listed 
 
     pub sound_listed : IsSound xs made listed'
     sound_listed = record { entered = still_entered; heeded = listed_heeded }
+
+-- an entry with both halves armed needs no listing
+pub sound_armed_both : (xs : List PlaceEntry) (s : PlaceEntry) (made : Slab EntrySeen) (listed : KeyTable) → entry_at xs s.place ≡ Some s → is_armed s ≡ true → IsSoundBut s.place xs made listed → IsSound xs made listed
+sound_armed_both xs s made listed at armed but = sound_listed xs s.place made listed listed refl but s at (λ key away. refl) (λ stands. heeds_armed_both s listed.keys s.base made armed)
 
 -- ---- a place that comes
 

@@ -1,5 +1,5 @@
 -- How held places stand, and what they stand on.
-use Rattle.std.specs.Prelude.{◌≡◌, ◌≤◌, ◌<◌, ℕ, zero, suc, Bool, true, false, not, ◌||◌, List, [], ◌∷◌, length, get_or, Option, None, Some, option_map, find, if◌then◌else◌}
+use Rattle.std.specs.Prelude.{◌≡◌, ◌≤◌, ◌<◌, ℕ, zero, suc, Bool, true, false, not, ◌&&◌, ◌||◌, List, [], ◌∷◌, length, get_or, Option, None, Some, option_map, find, if◌then◌else◌}
 use Rattle.std.specs.List.Sorted.{IsNonDecreasingBy}
 use Rattle.relay_model.specs.{Place, Half, same_place, Hold, Free}
 use Rattle.relay_model.specs.declared.places.Half.TheVariants.{ToRead, ToWrite}
@@ -72,6 +72,10 @@ abbrev pub half_disarmed : Half → Option PlaceEntry → Bool
 half_disarmed half None = false
 half_disarmed ToRead (Some entry) = entry.reading_disarmed
 half_disarmed ToWrite (Some entry) = entry.writing_disarmed
+
+-- both halves of the entry are armed
+abbrev pub is_armed : PlaceEntry → Bool
+is_armed entry = not entry.reading_disarmed && not entry.writing_disarmed
 
 -- this half of the place was last answered with nothing yet
 abbrev pub is_disarmed : List PlaceEntry → Place → Half → Bool

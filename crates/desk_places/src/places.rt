@@ -2,7 +2,7 @@
 ghost use Rattle.std.specs.Prelude.{◌≡◌, ◌<◌, ◌≤◌, ◌+◌, ◌^◌, [], None, Some, true, false, is_some, IfSome, length, position, OnOk, MatchOption};
 ghost use Rattle.relay_model.specs.{same_place, is_free};
 ghost use Rattle.desk_places.specs.PlaceTables.{AreInOrder, AreListed, IsFirstOf, IsStartOf, MarksEntry, PutsEntry, SameStanding};
-ghost use Rattle.desk_places.specs.PlaceTables.{base_at, entry_at, half_disarmed, hold_at, new_entry, with_half};
+ghost use Rattle.desk_places.specs.PlaceTables.{base_at, entry_at, half_disarmed, hold_at, is_armed, new_entry, with_half};
 
 use port_table::Base;
 use relay_model::{Half, NoMemory, Place};
@@ -42,6 +42,13 @@ impl PlaceEntry {
             reading_disarmed: settling,
             writing_disarmed: settling,
         }
+    }
+
+    /// Whether both halves are armed.
+    pub fn is_armed(&self) -> bool
+        ensures { result ≡ is_armed self.now }
+    {
+        !self.reading_disarmed && !self.writing_disarmed
     }
 
     /// Whether the half is disarmed.

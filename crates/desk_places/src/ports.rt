@@ -73,6 +73,7 @@ impl<M: Maker + Drop, I: Port, O: Port, E: Port> Ports<M, I, O, E> {
     }
 
     /// Lists the made port of the entry where it may hint at a disarmed half, and lists it no longer where it may not.
+    /// Where both halves are armed, the port isn't asked.
     fn list(&mut self, entry: PlaceEntry)
         ensures sound { (places : List PlaceEntry) → entry_at places entry.place ≡ Some entry
             → IsSoundBut entry.place places self.old.table.made self.old.listed
@@ -82,13 +83,18 @@ impl<M: Maker + Drop, I: Port, O: Port, E: Port> Ports<M, I, O, E> {
         let Some(key) = entry.base.made_key() else {
             return;
         };
+        if entry.is_armed() {
+            self.listed.set(key, false);
+            return;
+        }
         let may = self.table.may_hint(key);
         let awaited = (entry.reading_disarmed && may.readable)
             || (entry.writing_disarmed && may.writable);
         self.listed.set(key, awaited);
     }
 
-    /// Disarms the half of a place that is held, or arms it, and lists its port accordingly.
+    /// Disarms the half of a place that is held, or arms it, and lists its port accordingly. Where both halves are armed and
+    /// stay so, nothing is done.
     fn mark(&mut self, places: &mut PlaceTable, entry: PlaceEntry, half: Half, disarmed: bool)
         requires { entry_at places.old.entries entry.place ≡ Some entry }
         ensures sound { IsSoundBut entry.place places.new.entries self.old.table.made self.old.listed
@@ -96,6 +102,9 @@ impl<M: Maker + Drop, I: Port, O: Port, E: Port> Ports<M, I, O, E> {
         ensures marks { MarksEntry entry.place half disarmed places.old.entries places.new.entries }
         ensures rest { SameButListed self.old self.new }
     {
+        if entry.is_armed() && !disarmed {
+            return;
+        }
         let marked = places.mark(entry, half, disarmed);
         self.list(marked);
     }
