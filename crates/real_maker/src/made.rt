@@ -39,7 +39,7 @@ impl Model for DoorGate {
 }
 
 impl DoorGate {
-    /// Of a door that lacks nothing. Descriptors are copies of the registry's.
+    /// Of a door that lacks nothing. By the registry it tries whether descriptors can be had.
     pub(crate) fn new(alloc: Global, registry: Rc<Registry, Global>, shared: bool) -> DoorGate
         ensures { result ≡ record { shared = shared; lacking = 0 } }
     {

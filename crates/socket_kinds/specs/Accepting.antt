@@ -22,6 +22,13 @@ OnPeer P peers.NoPeer = Unit {0}
 OnPeer P peers.Failed = Unit {0}
 OnPeer P peers.Memory = Unit {0}
 
+-- a port came of which this holds, or none could be made
+abbrev pub StandsOrFailed : {T : Type 0} → (T → Type 0) → MadePeer T → Type 0
+StandsOrFailed P (peers.Came port peer) = P port
+StandsOrFailed P peers.NoPeer = ⊥
+StandsOrFailed P peers.Failed = Unit {0}
+StandsOrFailed P peers.Memory = ⊥
+
 -- what is said of the peer that came
 abbrev pub OnCame : {T : Type 0} → (Peer → Type 0) → MadePeer T → Type 0
 OnCame P (peers.Came port peer) = P peer

@@ -6,6 +6,7 @@ use Rattle.std.specs.IoError.{error_kind}
 use Rattle.port_trait.specs.{Hint}
 use Rattle.std.specs.declared.net.socket_addr.SocketAddr.{SocketAddr}
 use Rattle.mio.specs.declared.net.stream.TcpStream.{TcpStream}
+use Rattle.socket_kinds.specs.Answering.{Answers}
 use Rattle.socket_kinds.specs.declared.stream.SocketStream.{SocketStream}
 use Rattle.socket_kinds.specs.declared.stream.SocketStream.TheVariants as streams
 use Rattle.socket_kinds.specs.declared.door.Listener.{Listener}
@@ -38,20 +39,18 @@ ComesAddressed arrivals.LeftOff = Unit {0}
 ComesAddressed (arrivals.Nobody error) = Unit {0}
 ComesAddressed arrivals.Failed = Unit {0}
 
--- the system refuses, or has no descriptor for it yet
-abbrev pub IsRefusal : Arrival → Type 0
-IsRefusal (arrivals.Came stream from) = ⊥
-IsRefusal arrivals.Aborted = ⊥
-IsRefusal arrivals.Starved = Unit {0}
-IsRefusal arrivals.LeftOff = ⊥
-IsRefusal (arrivals.Nobody error) = ⊥
-IsRefusal arrivals.Failed = Unit {0}
+-- the error says neither that nobody waits nor that a connection was aborted
+abbrev pub IsRefusal : Error → Type 0
+IsRefusal error = (error_kind error ≢ WouldBlock) × (error_kind error ≢ ConnectionAborted)
 
--- nobody waits, a connection was aborted, or the system refuses
-pub record IsDeclined (error : Error) (arrival : Arrival) : Type 0 where
-  pub nobody : error_kind error ≡ WouldBlock → arrival ≡ arrivals.Nobody error
-  pub aborted : error_kind error ≡ ConnectionAborted → arrival ≡ arrivals.Aborted
-  pub failed : error_kind error ≢ WouldBlock → error_kind error ≢ ConnectionAborted → IsRefusal arrival
+-- nobody waits, a connection was aborted, or the system refuses, maybe since it has no descriptor for it yet
+abbrev pub IsDeclined : Error → Arrival → Type 0
+IsDeclined error (arrivals.Came stream from) = ⊥
+IsDeclined error arrivals.Aborted = error_kind error ≡ ConnectionAborted
+IsDeclined error arrivals.Starved = IsRefusal error
+IsDeclined error arrivals.LeftOff = ⊥
+IsDeclined error (arrivals.Nobody told) = (told ≡ error) × (error_kind error ≡ WouldBlock)
+IsDeclined error arrivals.Failed = IsRefusal error
 
 -- it is this connection, with this address
 abbrev pub CameFrom : TcpStream → SocketAddr → Arrival → Type 0
@@ -102,11 +101,24 @@ CameAt comes (listeners.Unix listener) stream from = from ≡ None
 CameAt comes (listeners.Udp enrolled) stream from = ⊥
 CameAt comes (listeners.Packets enrolled) stream from = ⊥
 
--- the same, where a connection came
+-- what one accepting at a TCP listener was told; nothing is known of another listener
+abbrev pub ToldAt : {T : Type 0} → (T → Result (TcpStream × SocketAddr) Error → Type 0) → Listener T → (Result (TcpStream × SocketAddr) Error → Type 0) → Type 0
+ToldAt comes (listeners.Tcp listener) P = Answers (comes listener) P
+ToldAt comes (listeners.Unix listener) P = Unit {0}
+ToldAt comes (listeners.Udp enrolled) P = Unit {0}
+ToldAt comes (listeners.Packets enrolled) P = Unit {0}
+
+-- nobody is let in where the call would have blocked; at a door that left off it failed by another error
+abbrev pub LetsNobodyIn : Bool → Result (TcpStream × SocketAddr) Error → Type 0
+LetsNobodyIn left (Ok pair) = ⊥
+LetsNobodyIn true (Err error) = error_kind error ≢ WouldBlock
+LetsNobodyIn false (Err error) = error_kind error ≡ WouldBlock
+
+-- what an accepting at this listener came to, by what the system told
 abbrev pub ArrivesAt : {T : Type 0} → (T → Result (TcpStream × SocketAddr) Error → Type 0) → Listener T → Arrival → Type 0
 ArrivesAt comes listener (arrivals.Came stream from) = CameAt comes listener stream from
-ArrivesAt comes listener arrivals.Aborted = Unit {0}
-ArrivesAt comes listener arrivals.Starved = Unit {0}
-ArrivesAt comes listener arrivals.LeftOff = Unit {0}
-ArrivesAt comes listener (arrivals.Nobody error) = Unit {0}
-ArrivesAt comes listener arrivals.Failed = Unit {0}
+ArrivesAt comes listener arrivals.Aborted = ToldAt comes listener (λ told. Comes told arrivals.Aborted)
+ArrivesAt comes listener arrivals.Starved = ToldAt comes listener (λ told. Comes told arrivals.Starved)
+ArrivesAt comes listener arrivals.LeftOff = ToldAt comes listener (LetsNobodyIn true)
+ArrivesAt comes listener (arrivals.Nobody error) = ToldAt comes listener (λ told. Comes told (arrivals.Nobody error))
+ArrivesAt comes listener arrivals.Failed = ToldAt comes listener (λ told. Comes told arrivals.Failed)

@@ -1,12 +1,13 @@
 -- What contracts see of any socket.
-use Rattle.std.specs.Prelude.{◌≡◌, Bool, true, false, Option, None, Some, Result, Ok}
+use Rattle.std.specs.Prelude.{◌≡◌, Bool, true, false, Option, None, Some, Result, Ok, Err}
 use Rattle.std.specs.declared.io.Error.{Error}
 use Rattle.std.specs.declared.net.socket_addr.SocketAddr.{SocketAddr}
 use Rattle.mio.specs.declared.net.listener.TcpListener.{TcpListener}
 use Rattle.mio.specs.declared.net.stream.TcpStream.{TcpStream}
-use Rattle.port_trait.specs.{no_hint, Hint}
+use Rattle.port_trait.specs.{no_hint, Hint, MadePeer}
+use Rattle.port_trait.specs.declared.makers.MadePeer.TheVariants as made
 use Rattle.socket_kinds.specs.Datagrams.{DatagramState, datagram_hint}
-use Rattle.socket_kinds.specs.Doors.{DoorState, door_hint, is_unix}
+use Rattle.socket_kinds.specs.Doors.{DoorState, IsRefusal, LetsNobodyIn, ToldAt, door_hint, is_unix}
 use Rattle.socket_kinds.specs.declared.door.Listener.{Listener}
 use Rattle.socket_kinds.specs.declared.door.Listener.TheVariants as listeners
 use Rattle.socket_kinds.specs.Streams.{StreamState}
@@ -118,3 +119,21 @@ abbrev pub ComesToDoor : {T : Type 0} → (T → Result (TcpStream × SocketAddr
 ComesToDoor comes (sockets.Stream before) socket = ⊥
 ComesToDoor comes (sockets.Datagrams before) socket = ⊥
 ComesToDoor comes (sockets.Door door) socket = ComesTo comes door.listener socket
+
+-- what one accepting at a TCP door was told; nothing is known of another socket
+abbrev pub ToldAtDoor : {T : Type 0} → (T → Result (TcpStream × SocketAddr) Error → Type 0) → SocketAt T → (Result (TcpStream × SocketAddr) Error → Type 0) → Type 0
+ToldAtDoor comes (sockets.Stream before) P = Unit {0}
+ToldAtDoor comes (sockets.Datagrams before) P = Unit {0}
+ToldAtDoor comes (sockets.Door door) P = ToldAt comes door.listener P
+
+-- no peer stands where the system refused, and where it told a connection that could not be enrolled
+abbrev pub FailsToStand : Result (TcpStream × SocketAddr) Error → Type 0
+FailsToStand (Ok pair) = Unit {0}
+FailsToStand (Err error) = IsRefusal error
+
+-- what a door answers, which may have left off, by what one accepting was told; at a TCP door memory never lacks
+abbrev pub AcceptsAt : {T P : Type 0} → (T → Result (TcpStream × SocketAddr) Error → Type 0) → SocketAt T → Bool → (P → SocketAt T) → MadePeer P → Type 0
+AcceptsAt comes door left socket_of (made.Came port peer) = ComesToDoor comes door (socket_of port)
+AcceptsAt comes door left socket_of made.NoPeer = ToldAtDoor comes door (LetsNobodyIn left)
+AcceptsAt comes door left socket_of made.Failed = ToldAtDoor comes door FailsToStand
+AcceptsAt comes door left socket_of made.Memory = ToldAtDoor comes door (λ told. ⊥)

@@ -2,9 +2,10 @@
 ghost use Rattle.std.specs.Prelude.{◌≡◌, ◌≢◌, false, true, None};
 ghost use Rattle.port_trait.specs.declared.makers.MadePeer.TheVariants as peers;
 ghost use Rattle.relay_model.specs.declared.acts.Peer.TheVariants as whose;
-ghost use Rattle.socket_kinds.specs.Accepting.{OnPeer, OnCame, OnBoth, IsNoPartner};
+ghost use Rattle.socket_kinds.specs.Accepting.{OnPeer, OnCame, OnBoth, IsNoPartner, StandsOrFailed};
 ghost use Rattle.socket_kinds.specs.Doors.{is_unix};
-ghost use Rattle.socket_kinds.specs.Kinds.{is_door, is_unix_door, has_left_off, ComesTo, ComesToDoor, HasPartner, IsConnectedFrom, IsOfPackets, IsToldPeer};
+ghost use Rattle.socket_kinds.specs.Kinds.{is_door, is_unix_door, has_left_off, AcceptsAt, HasPartner, IsConnectedFrom, IsOfPackets, IsToldPeer};
+ghost use Rattle.socket_kinds.specs.declared.any_socket.AnySocket.TheVariants as sockets;
 
 use crate::any_socket::AnySocket;
 use crate::datagram::DatagramSocket;
@@ -37,7 +38,7 @@ impl<T: Accepts> AnySocket<StreamSocket, DatagramSocket, SocketDoor<T>> {
         ensures no_door { is_door self.old ≡ false → result ≡ peers.Failed }
         ensures left_off { has_left_off self.new ≡ true → result ≡ peers.NoPeer }
         ensures addressed { is_unix_door self.old ≡ false → OnCame (λ peer. peer ≢ whose.Local) result }
-        ensures came { OnPeer (ComesToDoor T.comes self.old) result }
+        ensures came { AcceptsAt T.comes self.old (has_left_off self.new) (λ socket. socket) result }
         ensures partner { OnBoth HasPartner result }
     {
         match self {
@@ -56,7 +57,7 @@ fn accept_at<T: Accepts>(
     ensures sort { OnPeer (λ socket. is_door socket ≡ false) result }
     ensures left_off { door.new.cut_short ≡ true → result ≡ peers.NoPeer }
     ensures addressed { is_unix door.old.listener ≡ false → OnCame (λ peer. peer ≢ whose.Local) result }
-    ensures came { OnPeer (ComesTo T.comes door.old.listener) result }
+    ensures came { AcceptsAt T.comes (sockets.Door door.old) door.new.cut_short (λ socket. socket) result }
     ensures partner { OnBoth HasPartner result }
 {
     door.cut_short = false;
@@ -95,7 +96,7 @@ fn turn_away<T: Drop>(door: &mut SocketDoor<T>, error: &Error) -> MadePeer<Socke
     no_partner(error)
 }
 
-#[tactic(auto, using(crate::proofs::Arrivals::comes_to))]
+#[tactic(auto, using(crate::proofs::Arrivals::stands))]
 fn accept_connected<T: Accepts>(
     registry: &Registry,
     door: &mut SocketDoor<T>,
@@ -104,7 +105,7 @@ fn accept_connected<T: Accepts>(
     ensures sort { OnPeer (λ socket. is_door socket ≡ false) result }
     ensures left_off { door.new.cut_short ≡ true → result ≡ peers.NoPeer }
     ensures addressed { is_unix door.old.listener ≡ false → OnCame (λ peer. peer ≢ whose.Local) result }
-    ensures came { OnPeer (ComesTo T.comes door.old.listener) result }
+    ensures came { AcceptsAt T.comes (sockets.Door door.old) door.new.cut_short (λ socket. socket) result }
     ensures partner { OnBoth HasPartner result }
 {
     let nodelay = door.nodelay;
@@ -126,7 +127,7 @@ fn stand<T: Drop>(
     key: usize,
 ) -> MadePeer<SocketAt<T>>
     ensures sort { OnPeer (λ socket. is_door socket ≡ false) result }
-    ensures from { OnPeer (IsConnectedFrom from) result }
+    ensures from { StandsOrFailed (IsConnectedFrom from) result }
     ensures addressed { from ≢ None → OnCame (λ peer. peer ≢ whose.Local) result }
     ensures partner { OnBoth HasPartner result }
 {
@@ -136,11 +137,8 @@ fn stand<T: Drop>(
     if !stream.enroll(registry, key) {
         return MadePeer::Failed;
     }
-    let peer = told_peer(from);
-    MadePeer::Came(
-        AnySocket::Stream(StreamSocket::new_connected(stream, from)),
-        peer,
-    )
+    let socket = StreamSocket::new_connected(stream, from);
+    MadePeer::Came(AnySocket::Stream(socket), told_peer(from))
 }
 
 /// The peer of the address that an accepting told. Only those of Unix sockets have none.

@@ -1,8 +1,10 @@
 // Descriptors that are kept in reserve for what a peer's session opens.
 ghost use Rattle.std.specs.Prelude.{◌≡◌, ◌≤◌, ◌<◌, ◌+◌, ◌-◌, true, false};
 
-use mio::Registry;
+use mio::{Registry, Token, Waker};
+use mio_poller::PROBE;
 use std::alloc::Global;
+use std::io;
 use std::marker::Model;
 use std::rc::Rc;
 
@@ -119,7 +121,8 @@ impl Reserve {
         ensures kept { result ≡ false → self.new.held ≡ self.old.held }
         ensures wanted { self.new.wanted ≡ self.old.wanted }
     {
-        if self.spares.is_empty() || can_have(self.alloc, &self.registry, MOST) {
+        let registry = &self.registry;
+        if self.spares.is_empty() || can_take(self.alloc, MOST, || registry.try_clone()) {
             return false;
         }
         self.spares.clear();
@@ -127,11 +130,20 @@ impl Reserve {
     }
 }
 
-/// Whether so many descriptors can be had. They are taken and given back.
+/// Whether so many descriptors can be had, each with an open file description of its own, as an accepting needs it. They
+/// are taken (eventfd(2)) and given back. A copy of a descriptor is no test, since it shares the description of its
+/// original: it can be had also while the system's table of open files is full (accept(2), `ENFILE`).
 pub fn can_have(alloc: Global, registry: &Registry, count: usize) -> bool {
+    can_take(alloc, count, || Waker::new(registry, Token(PROBE)))
+}
+
+/// Whether so many of these can be had. They are taken and given back.
+fn can_take<T: Drop, F: Fn() -> io::Result<T>>(alloc: Global, count: usize, take: F) -> bool
+    requires { F.IsAlwaysCallable take }
+{
     let mut had = Vec::new(alloc);
     for _ in 0..count {
-        let Ok(spare) = registry.try_clone() else {
+        let Ok(spare) = take() else {
             return false;
         };
         if had.push(spare).is_err() {

@@ -2,7 +2,7 @@
 ghost use Rattle.std.specs.Prelude.{◌≡◌, ◌≢◌, false, true};
 ghost use Rattle.port_trait.specs.declared.makers.MadePeer.TheVariants as peers;
 ghost use Rattle.relay_model.specs.declared.acts.Peer.TheVariants as whose;
-ghost use Rattle.socket_kinds.specs.{OnBoth, OnCame, OnPeer, is_door, is_unix_door, has_left_off, ComesToDoor, HasPartner};
+ghost use Rattle.socket_kinds.specs.{AcceptsAt, OnBoth, OnCame, OnPeer, is_door, is_unix_door, has_left_off, HasPartner};
 ghost use Rattle.socket_ports.specs.Accepting.{IsFreshPort};
 
 use crate::port::SocketPort;
@@ -29,7 +29,7 @@ impl<T: Accepts, G: Drop> SocketPort<SocketAt<T>, G> {
         ensures no_door { is_door self.old.socket ≡ false → result ≡ peers.Failed }
         ensures left_off { has_left_off self.new.socket ≡ true → result ≡ peers.NoPeer }
         ensures addressed { is_unix_door self.old.socket ≡ false → OnCame (λ peer. peer ≢ whose.Local) result }
-        ensures came { OnPeer (λ port. ComesToDoor T.comes self.old.socket port.socket) result }
+        ensures came { AcceptsAt T.comes self.old.socket (has_left_off self.new.socket) (λ port. port.socket) result }
         ensures partner { OnBoth (λ port peer. HasPartner port.socket peer) result }
         ensures kept { (self.new.counts ≡ self.old.counts) × (self.new.begun ≡ self.old.begun) × (self.new.ended ≡ self.old.ended) }
     {
