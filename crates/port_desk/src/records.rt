@@ -1,5 +1,5 @@
 // What a desk tells of itself: its held places, the acts that it keeps, its counts and the moment of its last turn.
-ghost use Rattle.std.specs.Prelude.{◌≡◌, ◌||◌, ◌≤◌, ◌+◌, ◌-◌, [], None, Some, true, false, is_some, length, OnOk, OnErr, IfOk, MatchOption, if◌then◌else◌, ⊤};
+ghost use Rattle.std.specs.Prelude.{◌≡◌, ◌||◌, ◌≤◌, ◌+◌, ◌-◌, [], None, Some, true, false, is_some, length, OnOk, OnErr, IfOk, MatchOption, if◌then◌else◌};
 ghost use Rattle.relay_model.specs.{copied_list};
 ghost use Rattle.world_trait.specs.{HasAskingRoom, HasRoom, told_by, accept_act, is_accept_fault, is_listen_fault, is_open_fault, is_read_fault};
 ghost use Rattle.world_trait.specs.{is_send_fault, is_shut_fault, is_write_fault, listen_act, open_act, read_act, reap_act, send_act, shut_act, write_act};
@@ -97,18 +97,25 @@ impl Log {
         Ok(None)
     }
 
-    /// Keeps the act, which there is wherever acts are kept, and counts a fault.
-    pub fn put(&mut self, act: Option<Act>, failed: bool)
+    /// Keeps the act, where acts are kept, and counts a fault.
+    pub fn put(&mut self, act: Act, failed: bool)
         requires { HasActRoom self.old }
-        ensures keeps { Keeps act failed self.old self.new }
+        ensures keeps { Keeps (Some act) failed self.old self.new }
         ensures acted { self.new.acted ≡ true }
+    {
+        self.count(failed);
+        self.recording.put(act);
+    }
+
+    /// Counts a fault. The act isn't kept, so it need not be made.
+    pub fn count(&mut self, failed: bool)
+        ensures keeps { Keeps None failed self.old self.new }
+        ensures acted { self.new.acted ≡ true }
+        ensures room { self.new.recording ≡ self.old.recording }
     {
         self.acted = true;
         if failed {
             self.counts.faults = self.counts.faults.saturating_add(1);
-        }
-        if let Some(act) = act {
-            self.recording.put(act);
         }
     }
 
@@ -119,10 +126,7 @@ impl Log {
         ensures keeps { KeepsAsking place copied (Some act) failed self.old self.new }
         ensures acted { self.new.acted ≡ true }
     {
-        self.acted = true;
-        if failed {
-            self.counts.faults = self.counts.faults.saturating_add(1);
-        }
+        self.count(failed);
         if let Some(copy) = copied {
             self.recording.put_asking(act, place, copy);
         }
@@ -148,9 +152,9 @@ impl Log {
         ensures { Keeps (open_act place answer) (is_open_fault answer) self.old self.new }
     {
         match answer {
-            OpenAnswer::Opened => self.put(Some(Act::Opened(place)), false),
-            OpenAnswer::Later => self.put(Some(Act::OpenLater(place)), false),
-            OpenAnswer::Failed => self.put(Some(Act::OpenFailed(place)), true),
+            OpenAnswer::Opened => self.put(Act::Opened(place), false),
+            OpenAnswer::Later => self.put(Act::OpenLater(place), false),
+            OpenAnswer::Failed => self.put(Act::OpenFailed(place), true),
             OpenAnswer::Memory => {}
         }
     }
@@ -174,9 +178,9 @@ impl Log {
         ensures { Keeps (accept_act door place answer) (is_accept_fault answer) self.old self.new }
     {
         match answer {
-            AcceptAnswer::Accepted(peer) => self.put(Some(Act::Accepted(place, peer)), false),
-            AcceptAnswer::NoPeer => self.put(Some(Act::NoPeer(door)), false),
-            AcceptAnswer::Failed => self.put(Some(Act::AcceptFailed(door)), true),
+            AcceptAnswer::Accepted(peer) => self.put(Act::Accepted(place, peer), false),
+            AcceptAnswer::NoPeer => self.put(Act::NoPeer(door), false),
+            AcceptAnswer::Failed => self.put(Act::AcceptFailed(door), true),
             AcceptAnswer::Memory => {}
         }
     }
@@ -194,18 +198,34 @@ impl Log {
         ensures answer { result ≡ read_answer got }
         ensures keeps { Keeps (read_act place into.now result) (is_read_fault result) self.old self.new }
     {
-        let (act, answer) = match got {
-            Got::Bytes(count) => (
-                fit_copy(self.alloc, copied, &into[..count]).map(|bytes| Act::Read(place, bytes)),
-                ReadAnswer::Bytes(count),
-            ),
-            Got::Empty => (Some(Act::ReadEmpty(place)), ReadAnswer::Empty),
-            Got::End => (Some(Act::ReadEnd(place)), ReadAnswer::End),
-            Got::NotYet => (Some(Act::ReadNotYet(place)), ReadAnswer::NotYet),
-            Got::Failed => (Some(Act::ReadFault(place)), ReadAnswer::Failed),
-        };
-        self.put(act, got == Got::Failed);
-        answer
+        match got {
+            Got::Bytes(count) => {
+                match copied {
+                    Some(copy) => {
+                        let bytes = fit_copy(self.alloc, copy, &into[..count]);
+                        self.put(Act::Read(place, bytes), false);
+                    }
+                    None => self.count(false),
+                }
+                ReadAnswer::Bytes(count)
+            }
+            Got::Empty => {
+                self.put(Act::ReadEmpty(place), false);
+                ReadAnswer::Empty
+            }
+            Got::End => {
+                self.put(Act::ReadEnd(place), false);
+                ReadAnswer::End
+            }
+            Got::NotYet => {
+                self.put(Act::ReadNotYet(place), false);
+                ReadAnswer::NotYet
+            }
+            Got::Failed => {
+                self.put(Act::ReadFault(place), true);
+                ReadAnswer::Failed
+            }
+        }
     }
 
     /// The answer of a write, whose act it keeps.
@@ -221,16 +241,20 @@ impl Log {
         ensures answer { result ≡ write_answer took }
         ensures keeps { Keeps (write_act place bytes.now result) (is_write_fault result) self.old self.new }
     {
-        let (act, answer) = match took {
-            Took::Took(count) => (
-                fit_copy(self.alloc, copied, &bytes[..count]).map(|bytes| Act::Wrote(place, bytes)),
-                WriteAnswer::Took(count),
-            ),
-            Took::NotYet => (Some(Act::WriteNotYet(place)), WriteAnswer::NotYet),
-            Took::Failed => (Some(Act::WriteFault(place)), WriteAnswer::Failed),
-        };
-        self.put(act, took == Took::Failed);
-        answer
+        match took {
+            Took::Took(count) => {
+                self.put_written(place, copied, &bytes[..count]);
+                WriteAnswer::Took(count)
+            }
+            Took::NotYet => {
+                self.put(Act::WriteNotYet(place), false);
+                WriteAnswer::NotYet
+            }
+            Took::Failed => {
+                self.put(Act::WriteFault(place), true);
+                WriteAnswer::Failed
+            }
+        }
     }
 
     /// The answer of a sending, whose act it keeps.
@@ -245,16 +269,34 @@ impl Log {
         ensures answer { result ≡ send_answer took }
         ensures keeps { Keeps (send_act place bytes.now result) (is_send_fault result) self.old self.new }
     {
-        let (act, answer) = match took {
-            Took::Took(_) => (
-                fit_copy(self.alloc, copied, bytes).map(|bytes| Act::Wrote(place, bytes)),
-                SendAnswer::Sent,
-            ),
-            Took::NotYet => (Some(Act::WriteNotYet(place)), SendAnswer::NotYet),
-            Took::Failed => (Some(Act::WriteFault(place)), SendAnswer::Failed),
-        };
-        self.put(act, took == Took::Failed);
-        answer
+        match took {
+            Took::Took(_) => {
+                self.put_written(place, copied, bytes);
+                SendAnswer::Sent
+            }
+            Took::NotYet => {
+                self.put(Act::WriteNotYet(place), false);
+                SendAnswer::NotYet
+            }
+            Took::Failed => {
+                self.put(Act::WriteFault(place), true);
+                SendAnswer::Failed
+            }
+        }
+    }
+
+    /// Keeps that these bytes were written, where acts are kept.
+    fn put_written(&mut self, place: Place, copied: Option<Bytes>, bytes: &[u8])
+        requires { CanKeep copied bytes.now self.old }
+        ensures { Keeps (Some (Act.Wrote place bytes.now)) false self.old self.new }
+    {
+        match copied {
+            Some(copy) => {
+                let bytes = fit_copy(self.alloc, copy, bytes);
+                self.put(Act::Wrote(place, bytes), false);
+            }
+            None => self.count(false),
+        }
     }
 
     /// The answer of a shut, whose act it keeps.
@@ -263,12 +305,16 @@ impl Log {
         ensures answer { result ≡ shut_answer answer }
         ensures keeps { Keeps (shut_act place how result) (is_shut_fault result) self.old self.new }
     {
-        let (act, answer) = match answer {
-            Shutting::Done => (Act::Shut(place, how), ShutAnswer::Done),
-            Shutting::Failed => (Act::ShutFault(place, how), ShutAnswer::Failed),
-        };
-        self.put(Some(act), answer == ShutAnswer::Failed);
-        answer
+        match answer {
+            Shutting::Done => {
+                self.put(Act::Shut(place, how), false);
+                ShutAnswer::Done
+            }
+            Shutting::Failed => {
+                self.put(Act::ShutFault(place, how), true);
+                ShutAnswer::Failed
+            }
+        }
     }
 
     /// The answer of a reaping, whose act it keeps.
@@ -279,7 +325,7 @@ impl Log {
     {
         match answer {
             PortReap::Reaped(end) => {
-                self.put(Some(Act::Reaped(place, end)), false);
+                self.put(Act::Reaped(place, end), false);
                 ReapAnswer::Reaped(end)
             }
             PortReap::NoChild => ReapAnswer::NoChild,
@@ -291,11 +337,15 @@ impl Log {
         requires { CanKeep copied text.now self.old }
         ensures { Keeps (Some (if failed then Act.NoteFault text.now else Act.Note text.now)) failed self.old self.new }
     {
-        let kept = fit_copy(self.alloc, copied, text);
+        let Some(copy) = copied else {
+            self.count(failed);
+            return;
+        };
+        let text = fit_copy(self.alloc, copy, text);
         if failed {
-            self.put(kept.map(|text| Act::NoteFault(text)), true);
+            self.put(Act::NoteFault(text), true);
         } else {
-            self.put(kept.map(|text| Act::Note(text)), false);
+            self.put(Act::Note(text), false);
         }
     }
 
@@ -312,17 +362,18 @@ impl Log {
         ensures err { OnErr result (SameButRoom self.old self.new) }
         ensures lacked { OnErr result (is_some self.old.recording.told ≡ true) }
     {
-        let mut act = None;
         if self.recording.keeps() {
             let ready = ready.copy()?;
-            act = Some(Act::Turn {
+            let turn = Act::Turn {
                 until,
                 at,
                 ready,
                 stop,
-            });
+            };
+            self.put(turn, false);
+        } else {
+            self.count(false);
         }
-        self.put(act, false);
         Ok(())
     }
 
@@ -338,17 +389,16 @@ impl Log {
     }
 }
 
-/// These bytes, in no more memory than they need where there is some, else in the copy; none where there is no copy.
-fn fit_copy(alloc: Global, copied: Option<Bytes>, bytes: &[u8]) -> Option<Bytes>
-    requires { MatchOption copied ⊤ (λ copy. length bytes.now ≤ length copy) }
-    ensures { MatchOption result (copied ≡ None) (λ kept. kept ≡ bytes.now) }
+/// These bytes, in no more memory than they need where there is some, else in the copy.
+fn fit_copy(alloc: Global, mut copy: Bytes, bytes: &[u8]) -> Bytes
+    requires { length bytes.now ≤ length copy }
+    ensures { result ≡ bytes.now }
 {
-    let mut copy = copied?;
     if bytes.len() < copy.len() {
         if let Ok(exact) = Bytes::of(alloc, bytes) {
-            return Some(exact);
+            return exact;
         }
     }
     copy.set(bytes);
-    Some(copy)
+    copy
 }

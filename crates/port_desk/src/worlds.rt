@@ -222,7 +222,7 @@ impl<M: Maker + Drop, P: Poller + Drop, I: Port, O: Port, E: Port, B: Beginning>
         ensures bases { Leaves place (base_at self.old.log.places.entries) (base_at self.new.log.places.entries) }
     {
         self.joined = self.ports.close(&mut self.log.places, place, why);
-        self.log.put(Some(Act::Closed(place, why)), false);
+        self.log.put(Act::Closed(place, why), false);
     }
 
     /// Writes the text to standard error, which is begun first.
