@@ -1,5 +1,5 @@
 -- Acts of the door, and turns, that pay for looks at sessions.
-use Rattle.std.proofs.Common.{◌≡◌, refl, ℕ, ◌+◌, ◌≤◌, Bool, List, [], ◌∷◌, ◌++◌, length, Option, Some, None, arith}
+use Rattle.std.proofs.Common.{◌≡◌, ℕ, ◌+◌, ◌≤◌, Bool, List, [], ◌∷◌, ◌++◌, length, Option, Some, None, arith}
 use Rattle.relay_model.specs.declared.commands.Config.{Config}
 use Rattle.relay_model.specs.declared.places.Place.{Place}
 use Rattle.relay_model.specs.declared.acts.Peer.{Peer}
@@ -68,13 +68,13 @@ pub paid_over : (c : Config) (old new : Seen) (live ticks : ℕ) (before after :
 paid_over c old new live ticks before after e same door wished kept = λ n start past on.
     led_itself past (AskedTo c n start new after asks.Over) 2 ticks (door_unmoved c n start old new past before after on same door kept, wished n past (door_for c n start old past before live e on))
 
--- before the next session was taken out
-pub paid_before : (c : Config) (old new : Seen) (ticks more : ℕ) (before mid after : Sessions) (result : Option DoorAsked) → SameButNext before mid → AskPaid c old new mid after ticks more result → AskPaid c old new before after ticks more result
+-- before the next session stood
+pub paid_before : (c : Config) (old new : Seen) (ticks more : ℕ) (before mid after : Sessions) (result : Option DoorAsked) → SameButNext c before mid → AskPaid c old new mid after ticks more result → AskPaid c old new before after ticks more result
 paid_before c old new ticks more before mid after None same p = λ n start past on. p n start past (next_taken c n start old past before mid on same)
 paid_before c old new ticks more before mid after (Some asked) same p = λ n start past on. p n start past (next_taken c n start old past before mid on same)
 
 -- no memory for it
-pub paid_short : (c : Config) (now : Seen) (ticks : ℕ) (before after : Sessions) → SameButNext before after → AskPaid c now now before after ticks ticks (Some (asks.Ends whys.Memory))
+pub paid_short : (c : Config) (now : Seen) (ticks : ℕ) (before after : Sessions) → SameButNext c before after → AskPaid c now now before after ticks ticks (Some (asks.Ends whys.Memory))
 paid_short c now ticks before after same = λ n start past on. led_itself past (MayEndAfter c n start now whys.Memory after) 2 ticks (memory_ends_after c n start now past after (next_taken c n start now past before after on same))
 
 -- ---- all calls of the door

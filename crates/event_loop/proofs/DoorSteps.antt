@@ -50,11 +50,11 @@ use Rattle.event_loop.specs.Courses.{RowOf, NextIs, CountsSessions, Unsaid, Fram
 use Rattle.event_loop.specs.Endings.{MayLeave, MayLeaveRow, MayEnd, RunsOut, RowRuns, FailedAt, Failed, SomeFailed, EndsRows, MayEndAfter}
 use Rattle.event_loop.specs.declared.asked.DoorAsked.{DoorAsked}
 use Rattle.event_loop.specs.declared.asked.DoorAsked.TheVariants as asks
-use Rattle.event_loop.specs.Asking.{SameButNext, TakesNext, AskedIs, GoesOn}
+use Rattle.event_loop.specs.Asking.{SameButNext, AskedIs, GoesOn}
 use Rattle.event_loop.proofs.Others.{unsaid_kept, moment_kept, turns_kept}
 use Rattle.event_loop.proofs.Counting.{counted_kept, counted_by, counted_first}
 use Rattle.event_loop.proofs.RowLaws.{wakes_kept, awake_wakes, sleeper_wakes, row_up, row_listed, same_timer}
-use Rattle.event_loop.proofs.RowRuns.{here_of, ran_course, ran_ends}
+use Rattle.event_loop.proofs.RowRuns.{here_of, next_kept, ran_course, ran_ends}
 use Rattle.event_loop.proofs.Spreading.{up_may}
 use Rattle.event_loop.proofs.Rooms.{kept_room}
 
@@ -206,9 +206,9 @@ door_unmoved c n start old new past before after on e d kept =
 pub idle_as : (before after : Sessions) → SameLists before after → NoWork before → NoWork after
 idle_as before after e h = e.work_same ∙ h
 
--- ---- the next session taken out
+-- ---- the next session stands
 
-pub next_taken : (c : Config) (n : ℕ) (start now : Seen) (past : List Act) (before after : Sessions) → SessionsCourse c n start now past before → SameButNext before after → SessionsCourse c n start now past after
+pub next_taken : (c : Config) (n : ℕ) (start now : Seen) (past : List Act) (before after : Sessions) → SessionsCourse c n start now past before → SameButNext c before after → SessionsCourse c n start now past after
 next_taken c n start now past before after on same =
     let f = on.frame in
     record {
@@ -217,7 +217,7 @@ next_taken c n start now past before after on same =
         run = f.run;
         door = subst (DoorStands c past) (sym same.door_same) f.door;
         counts = record { admitted_is = same.admitted_same ∙ f.counts.admitted_is; children_is = same.bounds_same.0 ∙ f.counts.children_is; stop_is = same.bounds_same.1 ∙ f.counts.stop_is };
-        next = same.next c past f.next;
+        next = same.next past f.counts.admitted_is f.next;
         clock_is = same.clock_same ∙ f.clock_is;
         made_is = f.made_is ∙ sym same.made_same;
         room = kept_room _ _ _ f.room same.scratch_same;
@@ -227,8 +227,8 @@ next_taken c n start now past before after on same =
       rows = λ s. row_listed c n past s before after (same.rows_same s) same.lists (on.rows s);
     }
 
-pub idle_but_next : (before after : Sessions) → SameButNext before after → NoWork before → NoWork after
-idle_but_next before after same h = idle_as before after same.lists h
+pub idle_but_next : (c : Config) (before after : Sessions) → SameButNext c before after → NoWork before → NoWork after
+idle_but_next c before after same h = idle_as before after same.lists h
 
 -- ---- the run may be ended
 
@@ -373,12 +373,12 @@ door_failed c n start old new past live before mid e on idle a kept =
 pub fewer_kept : (one two three : Sessions) → steps_of two.door < steps_of one.door → three.door ≡ two.door → steps_of three.door < steps_of one.door
 fewer_kept one two three h e = let x = ap steps_of e in omega (arith, h, x)
 
--- ---- before the next session was taken out
+-- ---- before the next session stood
 
-pub some_next : (c : Config) (now : Seen) (before after : Sessions) → SessionsSomewhere c now before → SameButNext before after → SessionsSomewhere c now after
+pub some_next : (c : Config) (now : Seen) (before after : Sessions) → SessionsSomewhere c now before → SameButNext c before after → SessionsSomewhere c now after
 some_next c now before after at same = record { n = at.n; start = at.start; past = at.past; course = next_taken c at.n at.start now at.past before after at.course same }
 
-pub asked_before : (c : Config) (old new : Seen) (before mid after : Sessions) (result : Option DoorAsked) → SameButNext before mid → GoesOn c old new mid after result → GoesOn c old new before after result
+pub asked_before : (c : Config) (old new : Seen) (before mid after : Sessions) (result : Option DoorAsked) → SameButNext c before mid → GoesOn c old new mid after result → GoesOn c old new before after result
 asked_before c old new before mid after None same r = (λ n start past on. r.0 n start past (next_taken c n start old past before mid on same), r.1, fewer_before before mid after r.2 same.door_same, r.3 ∙ same.made_same)
   where
     fewer_before : (one two three : Sessions) → steps_of three.door < steps_of two.door → two.door ≡ one.door → steps_of three.door < steps_of one.door
@@ -387,11 +387,14 @@ asked_before c old new before mid after (Some (asks.Waits until)) same r = (λ n
 asked_before c old new before mid after (Some asks.Over) same r = (λ n start past on. r.0 n start past (next_taken c n start old past before mid on same), r.1, r.2 ∙ same.made_same)
 asked_before c old new before mid after (Some (asks.Ends why)) same r = λ n start past on. r n start past (next_taken c n start old past before mid on same)
 
-pub next_for : (c : Config) (now : Seen) (sessions after : Sessions) (pending_session : PendingSession) → SessionsSomewhere c now sessions → SameButNext sessions after → TakesNext c pending_session sessions after → (past : List Act) → after.table.admitted ≡ admitted c past → IsPendingSession c (admitted c past) pending_session
-next_for c now sessions after pending_session at same t past e =
+-- the next session, where it is this one
+pub next_is : (c : Config) (past : List Act) (next : Option PendingSession) (pending_session : PendingSession) → next ≡ Some pending_session → NextIs c past next → IsPendingSession c (admitted c past) pending_session
+next_is c past next pending_session e h = subst (NextIs c past) e h
+
+pub next_for : (c : Config) (now : Seen) (sessions after : Sessions) → SessionsSomewhere c now sessions → SameButNext c sessions after → (past : List Act) → after.table.admitted ≡ admitted c past → NextIs c past after.pending_session
+next_for c now sessions after at same past e =
     let f = at.course.frame in
-    let is = t.is_next at.past f.next f.counts.admitted_is in
-    subst (λ (k : ℕ). IsPendingSession c k pending_session) (sym f.counts.admitted_is ∙ sym same.admitted_same ∙ e) is
+    next_kept c at.past past after.pending_session (sym e ∙ same.admitted_same ∙ f.counts.admitted_is) (same.next at.past f.counts.admitted_is f.next)
 
 pub asked_then : (c : Config) (old mid new : Seen) (one two three : Sessions) (asked : DoorAsked) → Keeps c old mid one two → two.made ≡ one.made → AskedIs c mid new two three asked → AskedIs c old new one three asked
 asked_then c old mid new one two three (asks.Waits until) k m r = (λ n start past on. let o = k n start past on in r.0 n start o.past o.course, r.1, r.2 ∙ m)

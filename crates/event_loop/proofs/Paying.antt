@@ -13,7 +13,7 @@ use Rattle.program_door.proofs.Moves.{numbers_are}
 use Rattle.world_trait.specs.Seen.{Seen}
 use Rattle.relay_laws.specs.Sleeps.{IsBefore}
 use Rattle.relay_laws.proofs.Slept.{begun_step}
-use Rattle.session_loop.specs.Runs.{Run, Ran, stayed, acted}
+use Rattle.session_loop.specs.Runs.{Ran, stayed, acted}
 use Rattle.fork_table.specs.Tables.{row_of}
 use Rattle.session_laws.specs.Works.{MustAct}
 use Rattle.event_loop.specs.declared.all_sessions.Sessions.{Sessions}

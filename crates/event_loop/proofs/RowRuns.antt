@@ -37,7 +37,7 @@ use Rattle.event_loop.proofs.RowLaws.{row_up, row_as, row_listed, row_work, same
 use Rattle.event_loop.proofs.Spreading.{waker_may, spread_tells, up_may, heard_may}
 use Rattle.event_loop.proofs.Rooms.{kept_room}
 
-next_kept : (c : Config) (past since : List Act) (pending_session : Option PendingSession) → admitted c since ≡ admitted c past → NextIs c past pending_session → NextIs c since pending_session
+pub next_kept : (c : Config) (past since : List Act) (pending_session : Option PendingSession) → admitted c since ≡ admitted c past → NextIs c past pending_session → NextIs c since pending_session
 next_kept c past since None e h = tt
 next_kept c past since (Some u) e h = subst (λ (k : ℕ). IsPendingSession c k u) (sym e) h
 

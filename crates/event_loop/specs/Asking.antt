@@ -1,7 +1,6 @@
 -- What the calls of the program door make of the loop.
-use Rattle.std.specs.Prelude.{vec_len, ◌≡◌, ℕ, ◌<◌, List, Option, Some, None}
+use Rattle.std.specs.Prelude.{vec_len, ◌≡◌, ℕ, ◌<◌, List, Option, Some, None, is_some, true}
 use Rattle.relay_model.specs.{Config, Act, admitted}
-use Rattle.relay_session.specs.{PendingSession, IsPendingSession}
 use Rattle.program_door.specs.declared.wishes.DoorWish.TheVariants as wishes
 use Rattle.program_door.specs.{steps_of, Wished}
 use Rattle.fork_table.specs.{HasRoom, SameBounds, row_of}
@@ -12,8 +11,8 @@ use Rattle.event_loop.specs.declared.asked.DoorAsked.TheVariants as asks
 use Rattle.event_loop.specs.Courses.{NextIs, SessionsCourse, Keeps, NoWork, SameLists}
 use Rattle.event_loop.specs.Endings.{MayEnd}
 
--- the next session is taken out, and nothing else changed
-pub record SameButNext (before after : Sessions) : Type 0 where
+-- there is a next session where there was none, and nothing else changed
+pub record SameButNext (c : Config) (before after : Sessions) : Type 0 where
   pub door_same : after.door ≡ before.door
   pub clock_same : after.clock ≡ before.clock
   pub made_same : after.made ≡ before.made
@@ -22,13 +21,12 @@ pub record SameButNext (before after : Sessions) : Type 0 where
   pub bounds_same : SameBounds before.table after.table
   pub rows_same : (s : ℕ) → row_of after.table s ≡ row_of before.table s
   pub lists : SameLists before after
-  pub next : (c : Config) (past : List Act) → NextIs c past before.pending_session → NextIs c past after.pending_session
+  pub next : (past : List Act) → before.table.admitted ≡ admitted c past → NextIs c past before.pending_session → NextIs c past after.pending_session
 
--- it is the next one, and there is room for it
-pub record TakesNext (c : Config) (pending_session : PendingSession) (before after : Sessions) : Type 0 where
-  pub is_next : (past : List Act) → NextIs c past before.pending_session → before.table.admitted ≡ admitted c past → IsPendingSession c (admitted c past) pending_session
-  pub room : HasRoom after.table
-  pub taken : after.pending_session ≡ None
+-- the next session stands, and there is room for it
+pub record HasNext (sessions : Sessions) : Type 0 where
+  pub ready : is_some sessions.pending_session ≡ true
+  pub room : HasRoom sessions.table
 
 -- the door waits until this moment
 pub record DoorWaits (c : Config) (n : ℕ) (start now : Seen) (until : Option ℕ) (sessions : Sessions) : Type 0 where

@@ -1,5 +1,5 @@
 -- Looks at sessions, and the acts that pay for them.
-use Rattle.std.specs.Prelude.{◌≡◌, ◌⊎◌, ℕ, ◌+◌, ◌*◌, ◌≤◌, ◌<◌, List, [], ◌∷◌, ◌++◌, Option, Some, None, length}
+use Rattle.std.specs.Prelude.{◌⊎◌, ℕ, ◌+◌, ◌*◌, ◌≤◌, ◌<◌, List, [], ◌∷◌, ◌++◌, Option, Some, None, length}
 use Rattle.relay_model.specs.{Config, Act, Why, program_door, numbers}
 use Rattle.relay_model.specs.declared.acts.Act.TheVariants.{AcceptFailed}
 use Rattle.relay_model.specs.declared.acts.Why.TheVariants as whys

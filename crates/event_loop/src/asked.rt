@@ -1,8 +1,6 @@
 // The program door between two turns.
-ghost use Rattle.std.specs.Prelude.{◌≡◌, List, None, IfOk};
+ghost use Rattle.std.specs.Prelude.{◌≡◌, List, OnOk};
 ghost use Rattle.relay_model.specs.{Act, admitted, Fit};
-ghost use Rattle.relay_session.specs.{IsPendingSession};
-ghost use Rattle.fork_table.specs.{HasRoom};
 
 use crate::all_sessions::{Row, Sessions};
 use fork_table::Steps;
@@ -26,8 +24,8 @@ pub enum DoorAsked {
 }
 
 impl Sessions {
-    ghost use Rattle.event_loop.specs.Courses.{SessionsSomewhere, SameRest, NoWork};
-    ghost use Rattle.event_loop.specs.Asking.{AskedIs, GoesOn, TakesNext, SameButNext};
+    ghost use Rattle.event_loop.specs.Courses.{SessionsSomewhere, SameRest, NextIs, NoWork};
+    ghost use Rattle.event_loop.specs.Asking.{AskedIs, GoesOn, HasNext, SameButNext};
     ghost use Rattle.event_loop.specs.Endings.{SomeEnding, SomeFailed, EndsRows, WorkLives};
     ghost use Rattle.event_loop.specs.Paid.{AskPaid, AskedPaid, EndingPaid, EndsPaid};
     ghost use Rattle.event_loop.specs.Looks.{LooksFew};
@@ -71,16 +69,15 @@ impl Sessions {
         ensures looks { LooksFew 0 steps.old.ticks steps.new.ticks self.old self.new }
         ensures paid { AskPaid config.now (W.seen world.old) (W.seen world.new) self.old self.new steps.old.ticks steps.new.ticks result }
     {
-        match self.take_next(alloc, config) {
-            Ok(pending_session) => self.ask_for(pending_session, alloc, world, config, steps),
+        match self.ready_next(alloc, config) {
+            Ok(()) => self.ask_for(alloc, world, config, steps),
             Err(NoMemory) => Some(DoorAsked::Ends(Why::Memory)),
         }
     }
 
-    /// The same, with the session at hand that its peer would get.
+    /// The same, where the session stands that its peer would get.
     fn ask_for<W: World, L: Ledger>(
         &mut self,
-        pending_session: PendingSession,
         alloc: Global,
         world: &mut W,
         config: &Config,
@@ -88,10 +85,9 @@ impl Sessions {
     ) -> Option<DoorAsked>
         requires course { SessionsSomewhere config.now (W.seen world.old) self.old }
         requires idle { NoWork self.old }
-        requires room { HasRoom self.old.table }
-        requires taken { self.old.pending_session ≡ None }
+        requires has { HasNext self.old }
         requires next { (past : List Act) → self.old.table.admitted ≡ admitted config.now past
-            → IsPendingSession config.now (admitted config.now past) pending_session }
+            → NextIs config.now past self.old.pending_session }
         ensures asks { GoesOn config.now (W.seen world.old) (W.seen world.new) self.old self.new result }
         ensures made { self.new.made ≡ self.old.made }
         ensures looks { LooksFew 0 steps.old.ticks steps.new.ticks self.old self.new }
@@ -99,11 +95,11 @@ impl Sessions {
     {
         let live = self.table.live();
         match step_door(&mut self.door, world, config, self.clock, live) {
-            DoorStepped::Acted => {
-                self.pending_session = Some(pending_session);
-                None
-            }
+            DoorStepped::Acted => None,
             DoorStepped::Admitted(peer) => {
+                let Some(pending_session) = self.pending_session.take() else {
+                    unreachable!()
+                };
                 let number = self.table.next_number();
                 let session = pending_session.accepted(self.clock, peer);
                 self.table.admit(Row {
@@ -115,25 +111,13 @@ impl Sessions {
                     None => None,
                 }
             }
-            DoorStepped::AcceptFailed => {
-                self.pending_session = Some(pending_session);
-                match self.end_rows(world, config, steps) {
-                    Some(why) => Some(DoorAsked::Ends(why)),
-                    None => None,
-                }
-            }
-            DoorStepped::Memory => {
-                self.pending_session = Some(pending_session);
-                Some(DoorAsked::Ends(Why::Memory))
-            }
-            DoorStepped::Sleep(until) => {
-                self.pending_session = Some(pending_session);
-                Some(DoorAsked::Waits(until))
-            }
-            DoorStepped::Done => {
-                self.pending_session = Some(pending_session);
-                Some(DoorAsked::Over)
-            }
+            DoorStepped::AcceptFailed => match self.end_rows(world, config, steps) {
+                Some(why) => Some(DoorAsked::Ends(why)),
+                None => None,
+            },
+            DoorStepped::Memory => Some(DoorAsked::Ends(Why::Memory)),
+            DoorStepped::Sleep(until) => Some(DoorAsked::Waits(until)),
+            DoorStepped::Done => Some(DoorAsked::Over),
         }
     }
 
@@ -179,20 +163,21 @@ impl Sessions {
         None
     }
 
-    /// The session that the next peer gets, with all its memory, and room for it in the table, in the list of work and
-    /// among the timers.
-    fn take_next(&mut self, alloc: Global, config: &Config) -> Result<PendingSession, NoMemory>
+    /// Makes the session that the next peer gets, with all its memory, where there is none, and room for it in the table,
+    /// in the list of work and among the timers.
+    fn ready_next(&mut self, alloc: Global, config: &Config) -> Result<(), NoMemory>
         requires { Fit config.now }
-        ensures taken { IfOk result (λ pending_session. TakesNext config.now pending_session self.old self.new) }
-        ensures same { SameButNext self.old self.new }
+        ensures has { OnOk result (HasNext self.new) }
+        ensures same { SameButNext config.now self.old self.new }
     {
         self.table.reserve()?;
         let most = self.table.live() as usize + 1;
         self.work.reserve(most)?;
         self.timers.reserve(most)?;
-        match self.pending_session.take() {
-            Some(pending_session) => Ok(pending_session),
-            None => PendingSession::new(alloc, config, self.table.next_number()),
+        if self.pending_session.is_none() {
+            let number = self.table.next_number();
+            self.pending_session = Some(PendingSession::new(alloc, config, number)?);
         }
+        Ok(())
     }
 }
