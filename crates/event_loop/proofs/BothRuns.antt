@@ -1,5 +1,5 @@
 -- Both kinds of runs, and what is known of each.
-use Rattle.std.proofs.Common.{◌≡◌, refl, sym, ap, subst, ◌∙◌, ℕ, suc, ◌+◌, ◌-◌, ◌*◌, ◌^◌, ◌≤◌, ◌<◌, min, true, false, List, [], ◌∷◌, ◌++◌, length, length-append, append_assoc, add-one, Option, Some, None, arith}
+use Rattle.std.proofs.Common.{◌≡◌, refl, sym, ap, subst, ◌∙◌, ℕ, suc, ◌+◌, ◌-◌, ◌^◌, ◌≤◌, ◌<◌, min, true, false, List, ◌∷◌, ◌++◌, length-append, append_assoc, add-one, Option, Some, None, arith}
 use Rattle.std.proofs.lemmas.Bool.{false≢true, true≢false}
 use Rattle.relay_model.specs.declared.acts.Act.{Act}
 use Rattle.relay_model.specs.declared.acts.Act.TheVariants.{Turn}
@@ -17,7 +17,7 @@ use Rattle.event_loop.specs.Births.{Forks}
 use Rattle.event_loop.specs.declared.all_sessions.Sessions.{Sessions}
 use Rattle.event_loop.specs.declared.turned.RunEnd.{RunEnd}
 use Rattle.event_loop.specs.declared.turned.RunEnd.TheVariants as ends
-use Rattle.event_loop.specs.Looks.{LooksPaid, all_named, last_named}
+use Rattle.event_loop.specs.Looks.{LooksPaid}
 use Rattle.event_loop.specs.Turned.{ComesTo, Further, GoesRound, RunIs, Within}
 use Rattle.event_loop.specs.Vacated.{EndedAt, EndsFor, acts_to}
 use Rattle.event_loop.specs.Waited.{ShortAt, Stopping}
@@ -25,11 +25,10 @@ use Rattle.event_loop.proofs.Finishing as several
 use Rattle.event_loop.proofs.Paying.{named_append}
 use Rattle.event_loop.specs.declared.steps.Step.{Step}
 use Rattle.event_loop.specs.declared.steps.Step.TheVariants.{Goes, Over}
-use Rattle.event_loop.specs.declared.one.OneSession.{OneSession}
 use Rattle.event_loop.specs.declared.many.ManySessions.{ManySessions}
 use Rattle.event_loop.specs.declared.courses.LoopCourse.{LoopCourse}
 use Rattle.event_loop.specs.declared.courses.LoopCourse.TheVariants.{One, Many}
-use Rattle.event_loop.specs.Loops.{CallPaid, Called, CountsWaits, HasEnded, IsCourse, AreSessions, IsMany, IsOne, IsToEnd, LoopWentOn, is_late}
+use Rattle.event_loop.specs.Loops.{CallPaid, Called, CountsWaits, HasEnded, IsCourse, AreSessions, IsMany, IsToEnd, LoopWentOn, is_late}
 
 -- ---- commands
 

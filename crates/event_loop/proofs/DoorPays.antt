@@ -18,11 +18,11 @@ use Rattle.event_loop.specs.declared.all_sessions.Sessions.{Sessions}
 use Rattle.event_loop.specs.declared.all_sessions.Row.{Row}
 use Rattle.event_loop.specs.declared.asked.DoorAsked.{DoorAsked}
 use Rattle.event_loop.specs.declared.asked.DoorAsked.TheVariants as asks
-use Rattle.event_loop.specs.Asking.{SameButNext}
+use Rattle.event_loop.specs.Asking.{BornAs, OneMore, SameButNext}
 use Rattle.event_loop.specs.Courses.{SessionsCourse, NoWork}
 use Rattle.event_loop.specs.Endings.{MayEndAfter, RowRuns}
 use Rattle.event_loop.specs.Paid.{LedOn, AskPaid, AskedPaid, AskedTo, EndsPaid}
-use Rattle.event_loop.proofs.DoorSteps.{BornAs, KeptBack, OneMore, born_on, door_course, door_failed, door_unmoved, door_for, memory_ends_after, next_taken}
+use Rattle.event_loop.proofs.DoorSteps.{KeptBack, born_on, course_but_next, door_course, door_failed, door_unmoved, door_for, memory_ends_after}
 use Rattle.event_loop.proofs.Paying.{led_after, led_itself, led_ran, led_then}
 use Rattle.event_loop.proofs.RowRuns.{here_of, ran_course, ran_ends_after}
 
@@ -70,12 +70,12 @@ paid_over c old new live ticks before after e same door wished kept = λ n start
 
 -- before the next session stood
 pub paid_before : (c : Config) (old new : Seen) (ticks more : ℕ) (before mid after : Sessions) (result : Option DoorAsked) → SameButNext c before mid → AskPaid c old new mid after ticks more result → AskPaid c old new before after ticks more result
-paid_before c old new ticks more before mid after None same p = λ n start past on. p n start past (next_taken c n start old past before mid on same)
-paid_before c old new ticks more before mid after (Some asked) same p = λ n start past on. p n start past (next_taken c n start old past before mid on same)
+paid_before c old new ticks more before mid after None same p = λ n start past on. p n start past (course_but_next c n start old past before mid on same)
+paid_before c old new ticks more before mid after (Some asked) same p = λ n start past on. p n start past (course_but_next c n start old past before mid on same)
 
 -- no memory for it
 pub paid_short : (c : Config) (now : Seen) (ticks : ℕ) (before after : Sessions) → SameButNext c before after → AskPaid c now now before after ticks ticks (Some (asks.Ends whys.Memory))
-paid_short c now ticks before after same = λ n start past on. led_itself past (MayEndAfter c n start now whys.Memory after) 2 ticks (memory_ends_after c n start now past after (next_taken c n start now past before after on same))
+paid_short c now ticks before after same = λ n start past on. led_itself past (MayEndAfter c n start now whys.Memory after) 2 ticks (memory_ends_after c n start now past after (course_but_next c n start now past before after on same))
 
 -- ---- all calls of the door
 

@@ -1,5 +1,5 @@
 -- What the acts of the program door make of the course of all.
-use Rattle.std.proofs.Common.{◌≡◌, ◌≢◌, refl, sym, ap, subst, ◌∙◌, ℕ, zero, suc, ◌<◌, ◌≤◌, ◌+◌, ◌⊎◌, inl, inr, Bool, true, false, nat_lt, List, [], ◌∷◌, Option, Some, None, is_some, arith}
+use Rattle.std.proofs.Common.{◌≡◌, refl, sym, ap, subst, ◌∙◌, ℕ, zero, suc, ◌<◌, ◌≤◌, ◌⊎◌, inl, inr, Bool, true, false, nat_lt, List, [], ◌∷◌, Option, Some, None, is_some, arith}
 use Rattle.std.specs.Prelude.{vec_len}
 use Rattle.std.proofs.lemmas.Bool.{cases_lt, true≢false, and_right, and_from, lt-ltb, leb-false}
 use Rattle.relay_model.specs.declared.commands.Config.{Config}
@@ -11,9 +11,8 @@ use Rattle.relay_model.specs.declared.acts.Why.{Why}
 use Rattle.relay_model.specs.declared.acts.Why.TheVariants as whys
 use Rattle.relay_model.specs.Choices.{only_if, first_some, one_more, count}
 use Rattle.relay_model.specs.Configs.{has_fork, single, program_door}
-use Rattle.relay_model.specs.History.{now as moment, memory_said, stop_said, accept_failed}
+use Rattle.relay_model.specs.History.{memory_said, stop_said, accept_failed}
 use Rattle.relay_model.specs.Journals.{Asking}
-use Rattle.relay_model.specs.declared.places.Side.{Side}
 use Rattle.relay_model.specs.Rest.{owed}
 use Rattle.relay_model.specs.Sessions.{admitted, holds, live, live_count, numbers, next_place, permits, door_options}
 use Rattle.relay_model.specs.Calls.{door_call}
@@ -26,12 +25,13 @@ use Rattle.relay_session.specs.declared.sessions.PendingSession.{PendingSession}
 use Rattle.relay_session.specs.Sessions.{Hears, IsPendingSession}
 use Rattle.relay_session.specs.States.{home}
 use Rattle.relay_session.specs.Births.{BeginsSession}
+use Rattle.program_door.specs.declared.doors.Door.{Door}
 use Rattle.program_door.specs.Stands.{DoorStands}
 use Rattle.program_door.specs.declared.wishes.DoorWish.TheVariants as wishes
 use Rattle.program_door.specs.Steps.{steps_of}
 use Rattle.program_door.specs.Wishes.{Wished}
 use Rattle.program_door.proofs.Moves.{numbers_are, admitted_more}
-use Rattle.fork_table.specs.Tables.{Table, row_of, live_in, may_accept_in, SameBounds}
+use Rattle.fork_table.specs.Tables.{Table, row_of, live_in, may_accept_in}
 use Rattle.relay_laws.proofs.Slept.{passes, begun_step, session_alike}
 use Rattle.session_laws.proofs.Beginnings.{next}
 use Rattle.world_trait.specs.Seen.{Seen}
@@ -39,7 +39,6 @@ use Rattle.session_laws.specs.SessionSets.{Waker}
 use Rattle.session_laws.proofs.Members.{through_acts, awake, accept_ends}
 use Rattle.session_loop.specs.Pauses.{ends_all}
 use Rattle.session_loop.specs.Runs.{Run}
-use Rattle.session_driver.specs.Dumpers.{counted_at}
 use Rattle.session_driver.proofs.Counting.{unread_owes}
 use Rattle.session_loop.proofs.DrainGoing.{AllCommands, acted_run, idle_run}
 use Rattle.session_driver.specs.DoorSteps.{DoorFor, DoorMeets, DoorActs, DoorAsking, DoorIdles, EndsNone, AdmitsNone, Admits}
@@ -50,7 +49,7 @@ use Rattle.event_loop.specs.Courses.{RowOf, NextIs, CountsSessions, Unsaid, Fram
 use Rattle.event_loop.specs.Endings.{MayLeave, MayLeaveRow, MayEnd, RunsOut, RowRuns, FailedAt, Failed, SomeFailed, EndsRows, MayEndAfter}
 use Rattle.event_loop.specs.declared.asked.DoorAsked.{DoorAsked}
 use Rattle.event_loop.specs.declared.asked.DoorAsked.TheVariants as asks
-use Rattle.event_loop.specs.Asking.{SameButNext, AskedIs, GoesOn}
+use Rattle.event_loop.specs.Asking.{BornAs, OneMore, SameButNext, AskedIs, GoesOn}
 use Rattle.event_loop.proofs.Others.{unsaid_kept, moment_kept, turns_kept}
 use Rattle.event_loop.proofs.Counting.{counted_kept, counted_by, counted_first}
 use Rattle.event_loop.proofs.RowLaws.{wakes_kept, awake_wakes, sleeper_wakes, row_up, row_listed, same_timer}
@@ -208,8 +207,8 @@ idle_as before after e h = e.work_same ∙ h
 
 -- ---- the next session stands
 
-pub next_taken : (c : Config) (n : ℕ) (start now : Seen) (past : List Act) (before after : Sessions) → SessionsCourse c n start now past before → SameButNext c before after → SessionsCourse c n start now past after
-next_taken c n start now past before after on same =
+pub course_but_next : (c : Config) (n : ℕ) (start now : Seen) (past : List Act) (before after : Sessions) → SessionsCourse c n start now past before → SameButNext c before after → SessionsCourse c n start now past after
+course_but_next c n start now past before after on same =
     let f = on.frame in
     record {
       frame = record {
@@ -266,20 +265,6 @@ may_accept c n start now past sessions on called =
     let m = on.frame.counts.children_is in
     let o = on.frame.counts.stop_is in
     and_from (nat_lt (live_in sessions.table) sessions.table.max_children) (nat_lt sessions.table.admitted sessions.table.stop_after) (lt-ltb (live_in sessions.table) sessions.table.max_children (omega (arith, y, l, m))) (lt-ltb sessions.table.admitted sessions.table.stop_after (omega (arith, x, e, o)))
-
--- the table has one row more, of a session that has read nothing
-pub record OneMore (born : Row) (before after : Sessions) : Type 0 where
-  pub clock_same : after.clock ≡ before.clock
-  pub made_same : after.made ≡ before.made
-  pub scratch_same : vec_len after.scratch ≡ vec_len before.scratch
-  pub pending_session_is : after.pending_session ≡ None
-  pub row : row_of after.table before.table.admitted ≡ Some born
-  pub heard : born.turn ≡ before.made
-  pub unread : (side : Side) → counted_at born.member.dumper side ≡ 0
-  pub lists : SameLists before after
-  pub others : (s : ℕ) → s ≢ before.table.admitted → row_of after.table s ≡ row_of before.table s
-  pub admitted_is : after.table.admitted ≡ before.table.admitted + 1
-  pub bounds_same : SameBounds before.table after.table
 
 no_next : (c : Config) (past : List Act) (pending_session : Option PendingSession) → pending_session ≡ None → NextIs c past pending_session
 no_next c past pending_session e = subst (NextIs c past) (sym e) tt
@@ -376,25 +361,34 @@ fewer_kept one two three h e = let x = ap steps_of e in omega (arith, h, x)
 -- ---- before the next session stood
 
 pub some_next : (c : Config) (now : Seen) (before after : Sessions) → SessionsSomewhere c now before → SameButNext c before after → SessionsSomewhere c now after
-some_next c now before after at same = record { n = at.n; start = at.start; past = at.past; course = next_taken c at.n at.start now at.past before after at.course same }
+some_next c now before after at same = record { n = at.n; start = at.start; past = at.past; course = course_but_next c at.n at.start now at.past before after at.course same }
 
 pub asked_before : (c : Config) (old new : Seen) (before mid after : Sessions) (result : Option DoorAsked) → SameButNext c before mid → GoesOn c old new mid after result → GoesOn c old new before after result
-asked_before c old new before mid after None same r = (λ n start past on. r.0 n start past (next_taken c n start old past before mid on same), r.1, fewer_before before mid after r.2 same.door_same, r.3 ∙ same.made_same)
+asked_before c old new before mid after None same r = (λ n start past on. r.0 n start past (course_but_next c n start old past before mid on same), r.1, fewer_before before mid after r.2 same.door_same, r.3 ∙ same.made_same)
   where
     fewer_before : (one two three : Sessions) → steps_of three.door < steps_of two.door → two.door ≡ one.door → steps_of three.door < steps_of one.door
     fewer_before one two three h e = let x = ap steps_of e in omega (arith, h, x)
-asked_before c old new before mid after (Some (asks.Waits until)) same r = (λ n start past on. r.0 n start past (next_taken c n start old past before mid on same), r.1, r.2 ∙ same.made_same)
-asked_before c old new before mid after (Some asks.Over) same r = (λ n start past on. r.0 n start past (next_taken c n start old past before mid on same), r.1, r.2 ∙ same.made_same)
-asked_before c old new before mid after (Some (asks.Ends why)) same r = λ n start past on. r n start past (next_taken c n start old past before mid on same)
+asked_before c old new before mid after (Some (asks.Waits until)) same r = (λ n start past on. r.0 n start past (course_but_next c n start old past before mid on same), r.1, r.2 ∙ same.made_same)
+asked_before c old new before mid after (Some asks.Over) same r = (λ n start past on. r.0 n start past (course_but_next c n start old past before mid on same), r.1, r.2 ∙ same.made_same)
+asked_before c old new before mid after (Some (asks.Ends why)) same r = λ n start past on. r n start past (course_but_next c n start old past before mid on same)
 
 -- the next session, where it is this one
 pub next_is : (c : Config) (past : List Act) (next : Option PendingSession) (pending_session : PendingSession) → next ≡ Some pending_session → NextIs c past next → IsPendingSession c (admitted c past) pending_session
 next_is c past next pending_session e h = subst (NextIs c past) e h
 
-pub next_for : (c : Config) (now : Seen) (sessions after : Sessions) → SessionsSomewhere c now sessions → SameButNext c sessions after → (past : List Act) → after.table.admitted ≡ admitted c past → NextIs c past after.pending_session
-next_for c now sessions after at same past e =
+-- the session that stands ready is the next one, whatever history the table counts as
+pub next_of : (c : Config) (now : Seen) (sessions : Sessions) → SessionsSomewhere c now sessions → (past : List Act) → sessions.table.admitted ≡ admitted c past → NextIs c past sessions.pending_session
+next_of c now sessions at past e =
     let f = at.course.frame in
-    next_kept c at.past past after.pending_session (sym e ∙ same.admitted_same ∙ f.counts.admitted_is) (same.next at.past f.counts.admitted_is f.next)
+    next_kept c at.past past sessions.pending_session (sym e ∙ f.counts.admitted_is) f.next
+
+-- what a door did stands of the door that was left so
+pub acts_behind : (c : Config) (For : ℕ → List Act → Type 0) (old new : Seen) (before mid after : Door) (act : Act) → after ≡ mid → DoorActs c For old new before mid act → DoorActs c For old new before after act
+acts_behind c For old new before mid after act e a = subst (λ (door : Door). DoorActs c For old new before door act) (sym e) a
+
+-- a session is given after the door has moved on
+pub given_behind : (door : Door) (born : Row) (before after : Sessions) (roomy : 256 ≤ before.ready.room) → OneMore born (record before { door = door; roomy = roomy }) after → OneMore born before after
+given_behind door born before after roomy more = record { clock_same = more.clock_same; made_same = more.made_same; scratch_same = more.scratch_same; pending_session_is = more.pending_session_is; row = more.row; heard = more.heard; unread = more.unread; lists = record { work_same = more.lists.work_same; timers_same = more.lists.timers_same }; others = more.others; admitted_is = more.admitted_is; bounds_same = more.bounds_same }
 
 pub asked_then : (c : Config) (old mid new : Seen) (one two three : Sessions) (asked : DoorAsked) → Keeps c old mid one two → two.made ≡ one.made → AskedIs c mid new two three asked → AskedIs c old new one three asked
 asked_then c old mid new one two three (asks.Waits until) k m r = (λ n start past on. let o = k n start past on in r.0 n start o.past o.course, r.1, r.2 ∙ m)
@@ -424,10 +418,6 @@ goes_over c old new live before after e idle same door wished kept = (
   idle_as before after kept.lists idle,
   kept.made_same,
 )
-
--- the session that its peer makes of the next one
-abbrev pub BornAs : Config → Sessions → Peer → Session → Type 0
-BornAs c before peer session = (n : ℕ) (past : List Act) → BeginsSession c n past (admitted c past) peer → before.table.admitted ≡ admitted c past → before.clock ≡ moment past → Hears c n (acts.Accepted (home c (admitted c past)) peer ∷ past) (admitted c past) session
 
 -- what a session has heard is said of it in the table too
 pub born_as : (c : Config) (n : ℕ) (past : List Act) (peer : Peer) (x y : Session) → y ≡ x → Hears c n (acts.Accepted (home c (admitted c past)) peer ∷ past) (admitted c past) x → Hears c n (acts.Accepted (home c (admitted c past)) peer ∷ past) (admitted c past) y

@@ -14,7 +14,7 @@ use Rattle.event_loop.specs.declared.many.ManySessions.{ManySessions}
 use Rattle.event_loop.specs.declared.courses.LoopCourse.{LoopCourse}
 use Rattle.event_loop.specs.declared.courses.LoopCourse.TheVariants.{One, Many}
 use Rattle.event_loop.specs.declared.loops.Loop.{Loop}
-use Rattle.event_loop.specs.Loops.{Begins, BeginsLoop, Called, CountsWaits, IsCourse, Drives, EndedOn, EndsAll, SameCommand, SomeMany, SomeOne, LoopSomewhere, TurnIs, made_of}
+use Rattle.event_loop.specs.Loops.{Begins, BeginsLoop, Called, CountsWaits, IsCourse, Drives, EndsAll, SameCommand, SomeMany, SomeOne, LoopSomewhere, TurnIs, made_of}
 use Rattle.event_loop.proofs.BothRuns.{happened, waits_counted}
 
 -- the runs that led to the beginning go on from here

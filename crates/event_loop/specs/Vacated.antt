@@ -1,6 +1,6 @@
 -- What is left of a run once no session lives and the door closes what it holds.
 use Rattle.std.specs.Prelude.{◌≡◌, ◌⊎◌, ℕ, ◌+◌, ◌*◌, ◌<◌, ◌≤◌, true, false, List, ◌∷◌, ◌++◌, length, Option, Some, None}
-use Rattle.relay_model.specs.{Place, Config, Act, copied_list, Why, turns, held, admitted, holds}
+use Rattle.relay_model.specs.{Place, Config, Act, copied_list, Why, turns, admitted, holds}
 use Rattle.relay_model.specs.declared.acts.Act.TheVariants.{Closed, Turn}
 use Rattle.relay_model.specs.declared.acts.Why.TheVariants as whys
 use Rattle.program_door.specs.{first_held}

@@ -1,10 +1,11 @@
 // The program door between two turns.
-ghost use Rattle.std.specs.Prelude.{◌≡◌, List, OnOk};
-ghost use Rattle.relay_model.specs.{Act, admitted, Fit};
+ghost use Rattle.std.specs.Prelude.{◌≡◌, true, OnOk};
+ghost use Rattle.fork_table.specs.Tables.{may_accept_in};
+ghost use Rattle.relay_model.specs.{Fit};
 
 use crate::all_sessions::{Row, Sessions};
 use fork_table::Steps;
-use relay_model::{Config, NoMemory, Why};
+use relay_model::{Config, NoMemory, Peer, Why};
 use relay_session::PendingSession;
 use session_driver::{DoorStepped, step_door};
 use session_loop::Member;
@@ -24,8 +25,8 @@ pub enum DoorAsked {
 }
 
 impl Sessions {
-    ghost use Rattle.event_loop.specs.Courses.{SessionsSomewhere, SameRest, NextIs, NoWork};
-    ghost use Rattle.event_loop.specs.Asking.{AskedIs, GoesOn, HasNext, SameButNext};
+    ghost use Rattle.event_loop.specs.Courses.{SessionsSomewhere, SameRest, NoWork};
+    ghost use Rattle.event_loop.specs.Asking.{AskedIs, GivesNext, GoesOn, HasNext, SameButNext};
     ghost use Rattle.event_loop.specs.Endings.{SomeEnding, SomeFailed, EndsRows, WorkLives};
     ghost use Rattle.event_loop.specs.Paid.{AskPaid, AskedPaid, EndingPaid, EndsPaid};
     ghost use Rattle.event_loop.specs.Looks.{LooksFew};
@@ -86,8 +87,6 @@ impl Sessions {
         requires course { SessionsSomewhere config.now (W.seen world.old) self.old }
         requires idle { NoWork self.old }
         requires has { HasNext self.old }
-        requires next { (past : List Act) → self.old.table.admitted ≡ admitted config.now past
-            → NextIs config.now past self.old.pending_session }
         ensures asks { GoesOn config.now (W.seen world.old) (W.seen world.new) self.old self.new result }
         ensures made { self.new.made ≡ self.old.made }
         ensures looks { LooksFew 0 steps.old.ticks steps.new.ticks self.old self.new }
@@ -97,15 +96,7 @@ impl Sessions {
         match step_door(&mut self.door, world, config, self.clock, live) {
             DoorStepped::Acted => None,
             DoorStepped::Admitted(peer) => {
-                let Some(pending_session) = self.pending_session.take() else {
-                    unreachable!()
-                };
-                let number = self.table.next_number();
-                let session = pending_session.accepted(self.clock, peer);
-                self.table.admit(Row {
-                    member: Member::new(alloc, session),
-                    turn: self.made,
-                });
+                let number = self.admit(alloc, peer);
                 match self.run_row(number, world, config, steps) {
                     Some(why) => Some(DoorAsked::Ends(why)),
                     None => None,
@@ -119,6 +110,26 @@ impl Sessions {
             DoorStepped::Sleep(until) => Some(DoorAsked::Waits(until)),
             DoorStepped::Done => Some(DoorAsked::Over),
         }
+    }
+
+    /// Gives the peer the session that stands ready, which lives from now on. Answers its number.
+    fn admit(&mut self, alloc: Global, peer: Peer) -> u32
+        requires has { HasNext self.old }
+        requires may_accept { may_accept_in self.old.table ≡ true }
+        ensures number { result ≡ self.old.table.admitted }
+        ensures door { self.new.door ≡ self.old.door }
+        ensures gives { GivesNext peer self.old self.new }
+    {
+        let Some(pending_session) = self.pending_session.take() else {
+            unreachable!()
+        };
+        let number = self.table.next_number();
+        let session = pending_session.accepted(self.clock, peer);
+        self.table.admit(Row {
+            member: Member::new(alloc, session),
+            turn: self.made,
+        });
+        number
     }
 
     /// Cuts each session, since accepting a peer has failed, and has it close all that it holds, one after another.

@@ -1,7 +1,7 @@
-use Rattle.std.proofs.Common.{refl, sym, subst, ℕ}
+use Rattle.std.proofs.Common.{refl, sym, subst}
 use Rattle.event_loop.specs.declared.courses.LoopCourse.{LoopCourse}
 use Rattle.event_loop.specs.declared.courses.LoopCourse.TheVariants.{One, Many}
-use Rattle.event_loop.specs.Loops.{CourseLooks, Further, made_in}
+use Rattle.event_loop.specs.Loops.{Further, made_in}
 use Rattle.event_loop.proofs.Ending.{course_turned, some_many, some_one, waits_of}
 use Rattle.event_loop.proofs.loops.Loop.turn.Goals as goal
 
