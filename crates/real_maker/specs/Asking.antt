@@ -35,7 +35,7 @@ AsksFound octets _ now = Unit {0}
 
 -- the port asks one
 abbrev pub AsksSocks : Bool → List ℕ → ℕ → List ℕ → RealPort → Type 0
-AsksSocks named host wanted user (ports.Socks port) = AsksAt named host wanted user port.stage
+AsksSocks named host wanted user (ports.Socks port) = AsksAt named host wanted user port.value.stage
 AsksSocks named host wanted user _ = ⊥
 
 -- the port asks an HTTP proxy for it

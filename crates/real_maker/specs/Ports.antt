@@ -14,6 +14,6 @@ of_port echo socket file child socks proxy peer (ports.Echo port) = echo port
 of_port echo socket file child socks proxy peer (ports.Socket port) = socket port
 of_port echo socket file child socks proxy peer (ports.File port) = file port
 of_port echo socket file child socks proxy peer (ports.Child port) = child port
-of_port echo socket file child socks proxy peer (ports.Socks port) = socks port
+of_port echo socket file child socks proxy peer (ports.Socks port) = socks port.value
 of_port echo socket file child socks proxy peer (ports.Proxy port) = proxy port
 of_port echo socket file child socks proxy peer (ports.Peer port) = peer port

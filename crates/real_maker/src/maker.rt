@@ -280,7 +280,7 @@ where
                     host,
                     port: *port,
                 };
-                through_socks(sockets, key, *named, through, options)
+                through_socks(alloc, sockets, key, *named, through, options)
             }
             Target::Proxy { server, host, port } => {
                 let through = Through {

@@ -20,7 +20,7 @@ pub enum RealPort {
     Socket(OfSocket),
     File(FilePort),
     Child(ChildPort),
-    Socks(SocksOpening),
+    Socks(Box<SocksOpening>),
     Proxy(ConnectPort<OfSocket>),
     Peer(PeerPort),
 }

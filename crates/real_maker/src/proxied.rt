@@ -33,6 +33,7 @@ pub(crate) struct Through<'a> {
 /// Begins to connect to a host through a SOCKS server (socat(1), `SOCKS4` and `SOCKS4A`), which looks the host up where
 /// that is `named`. Otherwise a host that is a name is looked up here, beside the loop.
 pub(crate) fn through_socks<R>(
+    alloc: Global,
     sockets: &mut SocketMaker<R>,
     key: usize,
     named: bool,
@@ -57,7 +58,10 @@ where
         Making::Failed => return Making::Failed,
         Making::Memory => return Making::Memory,
     };
-    Making::Later(RealPort::Socks(SocksOpening::new(stage_of(inner, wanted))))
+    match Box::new(alloc, SocksOpening::new(stage_of(inner, wanted))) {
+        Ok(port) => Making::Later(RealPort::Socks(port)),
+        Err(_) => Making::Memory,
+    }
 }
 
 /// What a server is to be asked for.
