@@ -1,5 +1,5 @@
 -- Who comes at a door came by its listener.
-use Rattle.std.proofs.Common.{◌≡◌, Bool, Option, Result, subst}
+use Rattle.std.proofs.Common.{Bool, Option, Result, subst}
 use Rattle.std.specs.Prelude.{Ok}
 use Rattle.std.specs.declared.io.Error.{Error}
 use Rattle.std.specs.declared.net.socket_addr.SocketAddr.{SocketAddr}
