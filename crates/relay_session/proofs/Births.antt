@@ -469,8 +469,6 @@ direction_born c n past s peer w x h g =
       sloppy_is = g.sloppy_is;
       how_is = g.how_is;
       gathers_is = g.gathers_is;
-      grant_is = g.grant_is;
-      extra_within = g.extra_within;
       flow_is = subst (λ (a : List ℕ). IsFlow (terms_of c w) a (put one (output c s w)) x.flow) (sym i.got_same) (subst (λ (b : List ℕ). IsFlow (terms_of c w) (got other (input c s w)) b x.flow) (sym o.put_same) g.flow_is);
       arming_is = g.arming_is ∙ sym i.read_arming_same;
       armed_out_is = g.armed_out_is ∙ sym o.armed_to_write_same;
@@ -520,7 +518,7 @@ born_home c n past s peer old mid new o b openings lanes clock move fault closin
       begun = subst (λ (k : ℕ). k < numbers c (begun_by c s peer past)) (sym b.next) (counted (has_fork c) (is_admission c (home c s) peer) (admitted c past) b.fork admission);
       home_held = λ f u. ap (λ x. holds_at (cond x (Met peer) (stage past (home c s)))) e;
       openings_are = record { each = each_born c n past s peer h (places c s) mid.openings (λ p e. e) openings.each };
-      lanes_are = record { to_right_is = lane_born c n past s peer LeftToRight mid.lanes.to_right h lanes.to_right_is; to_left_is = lane_born c n past s peer RightToLeft mid.lanes.to_left h lanes.to_left_is };
+      lanes_are = record { to_right_is = lane_born c n past s peer LeftToRight mid.lanes.to_right h lanes.to_right_is; to_left_is = lane_born c n past s peer RightToLeft mid.lanes.to_left h lanes.to_left_is; grant_is = lanes.grant_is; extra_within = lanes.extra_within };
       clock_is = clock;
       moved_is = noted (is_place_of c s (home c s)) (now past) mid.moved (moved_at c past s) (home_is_own c s) move;
       faulted_is = fault ∙ o.faulted_is ∙ sym (faultless_of c n past s h);

@@ -1,12 +1,10 @@
 -- How many steps a session takes at most before the next turn, in one number.
-use Rattle.std.proofs.Common.{◌≡◌, refl, ℕ, ◌+◌, ◌*◌, ◌/◌, ◌≤◌, Bool, true, false, ◌&&◌, cond, List, [], ◌∷◌, length, map, is_some, arith, length-append}
-use Rattle.std.proofs.Math.Nat.{div-le_self, mul-div-le}
+use Rattle.std.proofs.Common.{◌≡◌, refl, ℕ, ◌+◌, ◌*◌, ◌≤◌, Bool, true, false, ◌&&◌, cond, List, [], ◌∷◌, length, map, is_some, arith, length-append}
 use Rattle.std.proofs.lemmas.Bool.{false≢true}
 use Rattle.std.proofs.lemmas.List.{length-map}
 use Rattle.relay_model.specs.declared.places.Place.{Place}
 use Rattle.relay_model.specs.declared.places.Side.{Side}
 use Rattle.relay_model.specs.declared.places.Side.TheVariants.{Left, Right}
-use Rattle.relay_model.specs.declared.places.Way.{Way}
 use Rattle.relay_model.specs.declared.places.Way.TheVariants.{LeftToRight, RightToLeft}
 use Rattle.relay_model.specs.declared.commands.Address.{Address}
 use Rattle.relay_model.specs.declared.commands.Address.TheVariants as addresses
@@ -20,13 +18,13 @@ use Rattle.relay_model.specs.declared.stages.Stage.TheVariants.{Untried, Usable,
 use Rattle.place_openings.specs.declared.one_place.Opening.{Opening}
 use Rattle.place_openings.specs.Stands.{Each}
 use Rattle.place_openings.specs.Steps.{left_unless, stage_weight, steps_of, steps_in}
-use Rattle.session_direction.specs.Directions.{IsDirection, granted, left_to_directions}
 use Rattle.session_direction.specs.States.{DirectionState, unless}
 use Rattle.session_direction.specs.States as directions
 use Rattle.relay_session.specs.declared.lanes.SessionLane.{SessionLane}
 use Rattle.relay_session.specs.declared.lanes.SessionLane.TheVariants.{Unformed, Formed}
 use Rattle.relay_session.specs.declared.states.State.{State}
-use Rattle.relay_session.specs.Lanes.{IsLane, lane_steps}
+use Rattle.relay_session.specs.declared.lanes.Lanes.{Lanes}
+use Rattle.relay_session.specs.Lanes.{AreLanes, IsLane, lane_steps, lanes_steps, left_to_directions}
 use Rattle.relay_session.specs.States.{Ground}
 use Rattle.relay_session.specs.States as sessions
 
@@ -81,31 +79,36 @@ unless_within : (b : Bool) (n : ℕ) → unless b n ≤ n
 unless_within true n = omega arith
 unless_within false n = omega arith
 
--- a direction of a session that has two, or only one
-direction_within : (c : Config) (past : List Act) (s : ℕ) (w : Way) (d : DirectionState) → IsDirection c past s w d → directions.steps_in d ≤ 4 + granted c
-direction_within c past s w d f =
-    omega (arith, f.grant_is, f.extra_within, unless_within d.asked_in 2, unless_within d.asked_out 1, unless_within (is_some d.passed_at) 1)
+-- a direction takes four steps at most for nothing
+direction_within : (d : DirectionState) → directions.steps_in d ≤ 4
+direction_within d = omega (arith, unless_within d.asked_in 2, unless_within d.asked_out 1, unless_within (is_some d.passed_at) 1)
 
-share_alone : (b : Bool) (left : ℕ) → cond b (left / 2) left ≤ left
-share_alone true left = div-le_self left 2
-share_alone false left = omega arith
+both_formed : (one other : Bool) → one ≡ true → other ≡ true → 8 ≤ cond (one && other) 8 4
+both_formed true true a b = omega arith
+both_formed true false a b = absurd (false≢true b)
+both_formed false other a b = absurd (false≢true a)
 
-share_of_two : (one other : Bool) (left : ℕ) → one ≡ true → other ≡ true → 2 * cond (one && other) (left / 2) left ≤ left
-share_of_two true true left a b = mul-div-le left 2
-share_of_two true false left a b = absurd (false≢true b)
-share_of_two false other left a b = absurd (false≢true a)
+some_formed : (b : Bool) → 4 ≤ cond b 8 4
+some_formed true = omega arith
+some_formed false = omega arith
 
--- one direction takes at most what is left, and each of two at most half of it
-lanes_within : (c : Config) (past : List Act) (s : ℕ) (right left : SessionLane) → IsLane c past s LeftToRight right → IsLane c past s RightToLeft left → lane_steps right + lane_steps left ≤ left_to_directions c
-lanes_within c past s Unformed Unformed r l = omega arith
-lanes_within c past s Unformed (Formed e) r l =
-    omega (arith, direction_within c past s RightToLeft e l, share_alone (formed c LeftToRight && formed c RightToLeft) (left_to_directions c), left_at_least c)
-lanes_within c past s (Formed d) Unformed r l =
-    omega (arith, direction_within c past s LeftToRight d r, share_alone (formed c LeftToRight && formed c RightToLeft) (left_to_directions c), left_at_least c)
-lanes_within c past s (Formed d) (Formed e) r l =
-    omega (arith, direction_within c past s LeftToRight d r, direction_within c past s RightToLeft e l, share_of_two (formed c LeftToRight) (formed c RightToLeft) (left_to_directions c) r.is_formed l.is_formed, left_at_least c)
+-- what two directions take for nothing, or one, is what the grant leaves
+free_within : (c : Config) (past : List Act) (s : ℕ) (right left : SessionLane) → IsLane c past s LeftToRight right → IsLane c past s RightToLeft left → lane_steps right + lane_steps left ≤ cond (formed c LeftToRight && formed c RightToLeft) 8 4
+free_within c past s Unformed Unformed r l = omega arith
+free_within c past s Unformed (Formed e) r l = omega (arith, direction_within e, some_formed (formed c LeftToRight && formed c RightToLeft))
+free_within c past s (Formed d) Unformed r l = omega (arith, direction_within d, some_formed (formed c LeftToRight && formed c RightToLeft))
+free_within c past s (Formed d) (Formed e) r l = omega (arith, direction_within d, direction_within e, both_formed (formed c LeftToRight) (formed c RightToLeft) r.is_formed l.is_formed)
+
+free_at_most : (b : Bool) → cond b 8 4 ≤ 8
+free_at_most true = omega arith
+free_at_most false = omega arith
+
+-- the two directions take at most what the openings leave
+lanes_within : (c : Config) (past : List Act) (s : ℕ) (lanes : Lanes) → AreLanes c past s lanes → lanes_steps lanes ≤ left_to_directions c
+lanes_within c past s lanes are =
+    omega (arith, free_within c past s lanes.to_right lanes.to_left are.to_right_is are.to_left_is, are.grant_is, are.extra_within, left_at_least c, free_at_most (formed c LeftToRight && formed c RightToLeft))
 
 -- the openings, of seven steps each, and the directions
 pub steps_within : (c : Config) (past : List Act) (s : ℕ) (st : State) → Ground c past s st → sessions.steps_of st ≤ 64
 steps_within c past s st g =
-    omega (arith, each_within c past (places c s) st.openings g.openings_are.each, places_counted c s, left_at_least c, lanes_within c past s st.lanes.to_right st.lanes.to_left g.lanes_are.to_right_is g.lanes_are.to_left_is)
+    omega (arith, each_within c past (places c s) st.openings g.openings_are.each, places_counted c s, left_at_least c, lanes_within c past s st.lanes g.lanes_are)

@@ -1,5 +1,5 @@
 -- A lane, from what its direction tells.
-use Rattle.std.proofs.Common.{◌≡◌, refl, sym, ap, subst, ◌∙◌, ℕ, ◌+◌, ◌<◌, ◌≤◌, Bool, true, false, not, List, ◌∷◌, take, length, min, Option, Some, None, is_some, arith}
+use Rattle.std.proofs.Common.{◌≡◌, refl, sym, ap, subst, ◌∙◌, ℕ, ◌+◌, ◌-◌, ◌<◌, ◌≤◌, nat_le, Bool, true, false, not, List, ◌∷◌, take, length, min, Option, Some, None, is_some, arith}
 use Rattle.relay_model.specs.declared.places.Way.{Way}
 use Rattle.relay_model.specs.declared.places.Way.TheVariants.{LeftToRight, RightToLeft}
 use Rattle.relay_model.specs.declared.places.Place.{Place}
@@ -14,7 +14,7 @@ use Rattle.relay_model.specs.Cause.{running}
 use Rattle.relay_model.specs.Rest.{goes, is_going}
 use Rattle.relay_model.specs.May.{MayRead, MayTryWrite, MayOffer, MayShut}
 use Rattle.relay_laws.proofs.PlaceLemmas.{same_place_equal}
-use Rattle.std.proofs.lemmas.Bool.{and_parts}
+use Rattle.std.proofs.lemmas.Bool.{and_parts, leb-true, le-leb}
 use Rattle.session_direction.specs.Directions.{IsDirection, WantsRead, WantsWrite}
 use Rattle.session_direction.specs.States.{DirectionState, can_read, can_write}
 use Rattle.relay_model.specs.declared.acts.Act.TheVariants as acts
@@ -26,7 +26,7 @@ use Rattle.relay_session.specs.declared.wishes.Wish.TheVariants as wishes
 use Rattle.relay_session.specs.declared.transfers.Transfer.{Transfer}
 use Rattle.relay_session.specs.declared.transfers.Transfer.TheVariants as transfers
 use Rattle.relay_session.specs.declared.lanes.Lanes.{Lanes}
-use Rattle.relay_session.specs.Lanes.{ReadsAt, Offers, LaneWishes, LanesWish, lane_at, can_read_in, can_write_in}
+use Rattle.relay_session.specs.Lanes.{ReadsAt, Offers, LaneWishes, LanesWish, lane_at, can_read_in, can_write_in, read_price_in, write_price_in}
 use Rattle.relay_session.specs.Transfers.{transfer_act, MayTransfer, TakesFrom, place_for, way_of, opposite}
 
 -- the way of an input and of an output
@@ -46,13 +46,13 @@ own_output : (c : Config) (past : List Act) (s : ℕ) (w : Way) (keeps : Bool) �
 own_output c past s LeftToRight keeps want = record { own = refl; may = want.may; keeps = want.borders }
 own_output c past s RightToLeft keeps want = record { own = refl; may = want.may; keeps = want.borders }
 
-pub reads_of : (c : Config) (past : List Act) (s : ℕ) (w : Way) (d : DirectionState) (n : ℕ) → IsDirection c past s w d → WantsRead c past s w n → can_read d ≡ true → (p : Place) → p ≡ d.source → ReadsAt c past s p n × (way_from p.side ≡ w) × (can_read d ≡ true)
-reads_of c past s w d n g want can p e =
+pub reads_of : (c : Config) (past : List Act) (s : ℕ) (w : Way) (d : DirectionState) (extra n : ℕ) → IsDirection c past s w d → WantsRead c past s w n → can_read d extra ≡ true → (p : Place) → p ≡ d.source → ReadsAt c past s p n × (way_from p.side ≡ w) × (can_read d extra ≡ true)
+reads_of c past s w d extra n g want can p e =
     let k : p ≡ input c s w = e ∙ g.source_is in
     (subst (λ q. ReadsAt c past s q n) (sym k) (own_input c past s w n want), ap (λ q. way_from q.side) k ∙ from_input c s w, can)
 
-pub offers_of : (c : Config) (past : List Act) (s : ℕ) (w : Way) (d : DirectionState) (keeps : Bool) → IsDirection c past s w d → WantsWrite c past s w keeps → can_write d ≡ true → (p : Place) → p ≡ d.sink → Offers c past s p keeps × (way_to p.side ≡ w) × (can_write d ≡ true)
-offers_of c past s w d keeps g want can p e =
+pub offers_of : (c : Config) (past : List Act) (s : ℕ) (w : Way) (d : DirectionState) (extra : ℕ) (keeps : Bool) → IsDirection c past s w d → WantsWrite c past s w keeps → can_write d extra ≡ true → (p : Place) → p ≡ d.sink → Offers c past s p keeps × (way_to p.side ≡ w) × (can_write d extra ≡ true)
+offers_of c past s w d extra keeps g want can p e =
     let k : p ≡ output c s w = e ∙ g.sink_is in
     (subst (λ q. Offers c past s q keeps) (sym k) (own_output c past s w keeps want), ap (λ q. way_to q.side) k ∙ borders_at c s w, can)
 
@@ -86,27 +86,31 @@ pub unpassed_at : (c : Config) (past : List Act) (s : ℕ) (w : Way) (how : Shut
 unpassed_at c past s LeftToRight how may = may.not_passed
 unpassed_at c past s RightToLeft how may = may.not_passed
 
-pub lanes_wish : (c : Config) (past : List Act) (s : ℕ) (w : Way) (lanes : Lanes) (wish : Wish) → LaneWishes c past s w (lane_at lanes w) (Some wish) → LanesWish c past s lanes (Some wish)
-lanes_wish c past s w lanes (wishes.Read p n) h = (h.0, ap (λ v. can_read_in (lane_at lanes v)) h.1 ∙ h.2)
-lanes_wish c past s w lanes (wishes.Write p) h = (h.0, ap (λ v. can_write_in (lane_at lanes v)) h.1 ∙ h.2)
-lanes_wish c past s w lanes (wishes.Send p) h = (h.0, ap (λ v. can_write_in (lane_at lanes v)) h.1 ∙ h.2)
-lanes_wish c past s w lanes (wishes.Shut p how) h = h
-lanes_wish c past s w lanes (wishes.Open p) h = absurd h
-lanes_wish c past s w lanes (wishes.Settle p) h = absurd h
-lanes_wish c past s w lanes (wishes.Listen d) h = absurd h
-lanes_wish c past s w lanes (wishes.Accept d p) h = absurd h
-lanes_wish c past s w lanes (wishes.Close q why) h = absurd h
-lanes_wish c past s w lanes (wishes.Reap p) h = absurd h
-lanes_wish c past s w lanes (wishes.Sleep until) h = absurd h
-lanes_wish c past s w lanes (wishes.Done why) h = absurd h
+-- what less pays for, more pays for too
+more_pays : (price less extra : ℕ) → less ≤ extra → nat_le price less ≡ true → nat_le price extra ≡ true
+more_pays price less extra within can = le-leb price extra (omega (arith, within, leb-true price less can))
 
-pub last_wish : (c : Config) (past : List Act) (s : ℕ) (lanes : Lanes) (o : Option Wish) → WantsNothing c past s LeftToRight → LaneWishes c past s RightToLeft lanes.to_left o → LanesWish c past s lanes o
+pub lanes_wish : (c : Config) (past : List Act) (s : ℕ) (w : Way) (lanes : Lanes) (extra : ℕ) (wish : Wish) → extra ≤ lanes.extra → LaneWishes c past s w (lane_at lanes w) extra (Some wish) → LanesWish c past s lanes (Some wish)
+lanes_wish c past s w lanes extra (wishes.Read p n) less h = (h.0, ap (λ v. can_read_in (lane_at lanes v) lanes.extra) h.1 ∙ more_pays (read_price_in (lane_at lanes w)) extra lanes.extra less h.2)
+lanes_wish c past s w lanes extra (wishes.Write p) less h = (h.0, ap (λ v. can_write_in (lane_at lanes v) lanes.extra) h.1 ∙ more_pays (write_price_in (lane_at lanes w)) extra lanes.extra less h.2)
+lanes_wish c past s w lanes extra (wishes.Send p) less h = (h.0, ap (λ v. can_write_in (lane_at lanes v) lanes.extra) h.1 ∙ more_pays (write_price_in (lane_at lanes w)) extra lanes.extra less h.2)
+lanes_wish c past s w lanes extra (wishes.Shut p how) less h = h
+lanes_wish c past s w lanes extra (wishes.Open p) less h = absurd h
+lanes_wish c past s w lanes extra (wishes.Settle p) less h = absurd h
+lanes_wish c past s w lanes extra (wishes.Listen d) less h = absurd h
+lanes_wish c past s w lanes extra (wishes.Accept d p) less h = absurd h
+lanes_wish c past s w lanes extra (wishes.Close q why) less h = absurd h
+lanes_wish c past s w lanes extra (wishes.Reap p) less h = absurd h
+lanes_wish c past s w lanes extra (wishes.Sleep until) less h = absurd h
+lanes_wish c past s w lanes extra (wishes.Done why) less h = absurd h
+
+pub last_wish : (c : Config) (past : List Act) (s : ℕ) (lanes : Lanes) (o : Option Wish) → WantsNothing c past s LeftToRight → LaneWishes c past s RightToLeft lanes.to_left lanes.extra o → LanesWish c past s lanes o
 last_wish c past s lanes None n h = each
   where
     each : (w : Way) → WantsNothing c past s w
     each LeftToRight = n
     each RightToLeft = h
-last_wish c past s lanes (Some wish) n h = lanes_wish c past s RightToLeft lanes wish h
+last_wish c past s lanes (Some wish) n h = lanes_wish c past s RightToLeft lanes lanes.extra wish (omega arith) h
 
 pub wrote_goes : (c : Config) (past : List Act) (s : ℕ) (w : Way) (d d' : DirectionState) (count took : ℕ) → IsDirection c past s w d → MayTryWrite c past (output c s w) × TakesFrom c (output c s w) d.flow.backlog count →
     (count ≤ length d.flow.backlog → (is_some d.flow.lane.packets ≡ true → count ≡ length d.flow.backlog) → took ≡ count) →
@@ -182,9 +186,9 @@ at_its_place P c past s w p waiting there transfers.WriteFailed own way may same
 at_its_place P c past s w p waiting there (transfers.Shut how) own way may same step = let k = write_at c s w p own way may.is_output in subst (λ q. P (acts.Shut q how)) (sym k) (step (subst (λ q. MayShut c past q how) k may))
 at_its_place P c past s w p waiting there (transfers.ShutFailed how) own way may same step = let k = write_at c s w p own way may.is_output in subst (λ q. P (acts.ShutFault q how)) (sym k) (step (subst (λ q. MayShut c past q how) k may))
 
--- where one of two falls and the other stays, the sum falls
-pub fewer_left : (a a' b b' : ℕ) → a' < a → b' ≡ b → a' + b' < a + b
-fewer_left a a' b b' h e = omega (arith, h, e)
+-- where what one of two falls by is more than what is paid for it, the sum falls
+pub fewer_left : (a a' b b' e e' price : ℕ) → a' < a + price → b' ≡ b → nat_le price e ≡ true → e' ≡ e - price → a' + b' + e' < a + b + e
+fewer_left a a' b b' e e' price h same can paid = omega (arith, h, same, leb-true price e can, paid)
 
-pub fewer_right : (a a' b b' : ℕ) → a' ≡ a → b' < b → a' + b' < a + b
-fewer_right a a' b b' e h = omega (arith, h, e)
+pub fewer_right : (a a' b b' e e' price : ℕ) → a' ≡ a → b' < b + price → nat_le price e ≡ true → e' ≡ e - price → a' + b' + e' < a + b + e
+fewer_right a a' b b' e e' price same h can paid = omega (arith, h, same, leb-true price e can, paid)

@@ -1,10 +1,11 @@
 -- The two directions of a session, each where the command forms it.
-use Rattle.std.specs.Prelude.{◌≡◌, ℕ, ◌+◌, Bool, true, false, List, [], Option, Some, None, is_some}
-use Rattle.relay_model.specs.{Place, Way, Config, Act, formed, way_from, way_to, Shut as Shutting, keeps_borders, greatest_read, MayRead, MayTryWrite}
+use Rattle.std.specs.Prelude.{◌≡◌, ℕ, ◌+◌, ◌-◌, ◌*◌, ◌≤◌, nat_le, Bool, true, false, ◌&&◌, if◌then◌else◌, List, [], length, Option, Some, None, is_some}
+use Rattle.relay_model.specs.{Place, Way, Config, Act, parts, formed, way_from, way_to, Shut as Shutting, keeps_borders, greatest_read, MayRead, MayTryWrite}
 use Rattle.relay_model.specs.{MayShut}
+use Rattle.relay_model.specs.declared.places.Side.TheVariants.{Left, Right}
 use Rattle.relay_model.specs.declared.places.Way.TheVariants.{LeftToRight, RightToLeft}
 use Rattle.relay_buffer.specs.{room_in}
-use Rattle.session_direction.specs.{can_read, can_write, steps_in, IsDirection, WantsNothing}
+use Rattle.session_direction.specs.{read_price, write_price, steps_in, IsDirection, WantsNothing}
 use Rattle.relay_session.specs.declared.wishes.Wish.{Wish}
 use Rattle.relay_session.specs.declared.wishes.Wish.TheVariants as wishes
 use Rattle.relay_session.specs.declared.lanes.SessionLane.{SessionLane}
@@ -16,10 +17,21 @@ abbrev pub IsLane : Config → List Act → ℕ → Way → SessionLane → Type
 IsLane c past s w Unformed = formed c w ≡ false
 IsLane c past s w (Formed d) = IsDirection c past s w d
 
--- the two lanes stand for the two directions
+-- of at most 64 calls of a session between two turns, those that are left to its directions: each of its places may take
+-- seven until it is ready
+abbrev pub left_to_directions : Config → ℕ
+left_to_directions c = 64 - 7 * (length (parts c Left) + length (parts c Right))
+
+-- how much a turn grants the directions for further asks: what is left, without the four calls of each that cost nothing
+abbrev pub granted : Config → ℕ
+granted c = left_to_directions c - (if formed c LeftToRight && formed c RightToLeft then 8 else 4)
+
+-- the two lanes stand for the two directions, which share what a turn grants
 pub record AreLanes (c : Config) (past : List Act) (s : ℕ) (lanes : Lanes) : Type 0 where
   pub to_right_is : IsLane c past s LeftToRight lanes.to_right
   pub to_left_is : IsLane c past s RightToLeft lanes.to_left
+  pub grant_is : lanes.grant ≡ granted c
+  pub extra_within : lanes.extra ≤ lanes.grant
 
 -- the lane of a direction
 abbrev pub lane_at : Lanes → Way → SessionLane
@@ -36,24 +48,32 @@ abbrev pub room_of : SessionLane → ℕ
 room_of Unformed = 0
 room_of (Formed d) = room_in d.flow
 
--- how many steps they take at most before the next turn
+-- how many steps a lane takes at most for nothing before the next turn
 abbrev pub lane_steps : SessionLane → ℕ
 lane_steps Unformed = 0
 lane_steps (Formed d) = steps_in d
 
 -- how many calls both lanes take at most before the next turn
 abbrev pub lanes_steps : Lanes → ℕ
-lanes_steps lanes = lane_steps lanes.to_right + lane_steps lanes.to_left
+lanes_steps lanes = lane_steps lanes.to_right + lane_steps lanes.to_left + lanes.extra
 
--- its input may be asked before the next turn, and its output
-abbrev pub can_read_in : SessionLane → Bool
-can_read_in Unformed = false
-can_read_in (Formed d) = can_read d
+-- what a read at the lane's input costs
+abbrev pub read_price_in : SessionLane → ℕ
+read_price_in Unformed = 0
+read_price_in (Formed d) = read_price d
 
--- a lane can pay for a write
-abbrev pub can_write_in : SessionLane → Bool
-can_write_in Unformed = false
-can_write_in (Formed d) = can_write d
+-- what a write at the lane's output costs
+abbrev pub write_price_in : SessionLane → ℕ
+write_price_in Unformed = 0
+write_price_in (Formed d) = write_price d
+
+-- so much pays for a read of the lane
+abbrev pub can_read_in : SessionLane → (extra : ℕ) → Bool
+can_read_in lane extra = nat_le (read_price_in lane) extra
+
+-- so much pays for a write of the lane
+abbrev pub can_write_in : SessionLane → (extra : ℕ) → Bool
+can_write_in lane extra = nat_le (write_price_in lane) extra
 
 -- each piece of the lane goes out as one packet
 abbrev pub keeps_pieces : SessionLane → Bool
@@ -72,13 +92,13 @@ room_at lanes p = room_of (lane_at lanes (way_from p.side))
 abbrev pub keeps_at : Lanes → Place → Bool
 keeps_at lanes p = keeps_pieces (lane_at lanes (way_to p.side))
 
--- a place may be asked for bytes before the next turn, and offered some
+-- a read at the place can be paid for
 abbrev pub can_read_at : Lanes → Place → Bool
-can_read_at lanes p = can_read_in (lane_at lanes (way_from p.side))
+can_read_at lanes p = can_read_in (lane_at lanes (way_from p.side)) lanes.extra
 
 -- a write at the place can be paid for
 abbrev pub can_write_at : Lanes → Place → Bool
-can_write_at lanes p = can_write_in (lane_at lanes (way_to p.side))
+can_write_at lanes p = can_write_in (lane_at lanes (way_to p.side)) lanes.extra
 
 -- ---- what a lane wishes for
 
@@ -99,14 +119,14 @@ pub record ShutsAt (c : Config) (past : List Act) (s : ℕ) (p : Place) (how : S
   pub own : p.session ≡ s
   pub may : MayShut c past p how
 
--- a read is at the lane's input and a write at its output, which weren't asked since the last turn or can be paid for
-abbrev pub LaneWishes : Config → List Act → ℕ → Way → SessionLane → Option Wish → Type 0
-LaneWishes c past s w lane None = WantsNothing c past s w
-LaneWishes c past s w lane (Some (wishes.Read p n)) = ReadsAt c past s p n × (way_from p.side ≡ w) × (can_read_in lane ≡ true)
-LaneWishes c past s w lane (Some (wishes.Write p)) = Offers c past s p false × (way_to p.side ≡ w) × (can_write_in lane ≡ true)
-LaneWishes c past s w lane (Some (wishes.Send p)) = Offers c past s p true × (way_to p.side ≡ w) × (can_write_in lane ≡ true)
-LaneWishes c past s w lane (Some (wishes.Shut p how)) = ShutsAt c past s p how
-LaneWishes c past s w lane (Some other) = ⊥
+-- a read is at the lane's input and a write at its output, and so much pays for it
+abbrev pub LaneWishes : Config → List Act → ℕ → Way → SessionLane → (extra : ℕ) → Option Wish → Type 0
+LaneWishes c past s w lane extra None = WantsNothing c past s w
+LaneWishes c past s w lane extra (Some (wishes.Read p n)) = ReadsAt c past s p n × (way_from p.side ≡ w) × (can_read_in lane extra ≡ true)
+LaneWishes c past s w lane extra (Some (wishes.Write p)) = Offers c past s p false × (way_to p.side ≡ w) × (can_write_in lane extra ≡ true)
+LaneWishes c past s w lane extra (Some (wishes.Send p)) = Offers c past s p true × (way_to p.side ≡ w) × (can_write_in lane extra ≡ true)
+LaneWishes c past s w lane extra (Some (wishes.Shut p how)) = ShutsAt c past s p how
+LaneWishes c past s w lane extra (Some other) = ⊥
 
 -- what both directions want: nothing, or the call that one of them wishes for
 abbrev pub LanesWish : Config → List Act → ℕ → Lanes → Option Wish → Type 0

@@ -1,11 +1,11 @@
 -- The act of a transfer at a place, and when it may come.
-use Rattle.std.specs.Prelude.{◌≡◌, if◌then◌else◌, ℕ, ◌≤◌, Bool, true, false, List, length, take}
+use Rattle.std.specs.Prelude.{◌≡◌, if◌then◌else◌, ℕ, ◌≤◌, nat_le, Bool, true, false, List, length, take}
 use Rattle.relay_model.specs.{Place, Config, Act, Way, way_from, way_to, keeps_borders, input, output, MayRead, MayTryWrite, MayShut}
 use Rattle.relay_model.specs.declared.acts.Act.TheVariants as acts
 use Rattle.relay_model.specs.declared.places.Way.TheVariants.{LeftToRight, RightToLeft}
 use Rattle.relay_session.specs.declared.lanes.SessionLane.{SessionLane}
 use Rattle.relay_session.specs.declared.lanes.Lanes.{Lanes}
-use Rattle.relay_session.specs.Lanes.{can_read_in, can_write_in, lane_at}
+use Rattle.relay_session.specs.Lanes.{read_price_in, write_price_in, lane_at}
 use Rattle.relay_session.specs.declared.transfers.Transfer.{Transfer}
 use Rattle.relay_session.specs.declared.transfers.Transfer.TheVariants as transfers
 
@@ -85,19 +85,10 @@ opposite RightToLeft = LeftToRight
 abbrev pub place_for : Config → ℕ → Way → Transfer → Place
 place_for c s w transfer = if is_read transfer then input c s w else output c s w
 
--- nothing of this kind was asked there since the last turn, or it can be paid for; an end is passed once anyway
-abbrev pub affords : SessionLane → Transfer → Bool
-affords lane (transfers.Read bytes) = can_read_in lane
-affords lane transfers.ReadEmpty = can_read_in lane
-affords lane transfers.ReadEnd = can_read_in lane
-affords lane transfers.ReadNotYet = can_read_in lane
-affords lane transfers.ReadFailed = can_read_in lane
-affords lane (transfers.Wrote count) = can_write_in lane
-affords lane transfers.WriteNotYet = can_write_in lane
-affords lane transfers.WriteFailed = can_write_in lane
-affords lane (transfers.Shut how) = true
-affords lane (transfers.ShutFailed how) = true
+-- what a transfer of the lane costs; an end is passed on for nothing
+abbrev pub price_of : SessionLane → Transfer → ℕ
+price_of lane transfer = if is_shut transfer then 0 else if is_read transfer then read_price_in lane else write_price_in lane
 
--- the lane can pay for the transfer
+-- the transfer at the place can be paid for
 abbrev pub affords_at : Lanes → Place → Transfer → Bool
-affords_at lanes p transfer = affords (lane_at lanes (way_of p transfer)) transfer
+affords_at lanes p transfer = nat_le (price_of (lane_at lanes (way_of p transfer)) transfer) lanes.extra

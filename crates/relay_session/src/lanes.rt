@@ -6,16 +6,26 @@ ghost use Rattle.relay_model.specs.{some_formed, way_work, input_moment, MayRead
 ghost use Rattle.relay_model.specs.declared.acts.Act.TheVariants as acts;
 ghost use Rattle.relay_model.specs.declared.places.Way.TheVariants.{LeftToRight, RightToLeft};
 ghost use Rattle.session_direction.specs.{listed, IsDirection, steps_in, touches};
+ghost use Rattle.relay_session.specs.Lanes.{granted};
 ghost use Rattle.relay_session.specs.Timers.{one_done_at};
-ghost use Rattle.relay_session.specs.Transfers.{transfer_act, MayTransfer, affords, affords_at, place_for, way_of};
+ghost use Rattle.relay_session.specs.Transfers.{transfer_act, MayTransfer, price_of, affords_at, place_for, way_of};
 
 use crate::moments::{earlier as lesser, one_of};
 use crate::transfers::Transfer;
 use crate::wishes::Wish;
-use command_places::is_formed;
+use command_places::{is_formed, parts};
 use relay_model::{Config, NoMemory, Place, ReadyAt, Side, Way};
 use session_direction::{Direction, Want};
 use std::alloc::Global;
+
+/// How many calls a session makes at most between two turns.
+const MOST_CALLS: usize = 64;
+
+/// How many of them each of its places may take until it is ready.
+const OPENING_CALLS: usize = 7;
+
+/// How many of them each of its directions makes at most for nothing.
+const FREE_CALLS: usize = 4;
 
 /// A direction, where the command forms it.
 #[derive(Drop)]
@@ -25,7 +35,7 @@ pub enum SessionLane {
 }
 
 impl SessionLane {
-    ghost use Rattle.relay_session.specs.Lanes.{IsLane, can_read_in, waiting_in, keeps_pieces, lane_steps, LaneWishes};
+    ghost use Rattle.relay_session.specs.Lanes.{IsLane, read_price_in, waiting_in, keeps_pieces, lane_steps, LaneWishes};
 
     /// A direction of the session with this number, at the beginning; only one that is formed takes memory.
     pub fn new(
@@ -44,15 +54,15 @@ impl SessionLane {
         }
     }
 
-    /// The call that it wishes for while the session runs, if there is one.
-    pub fn wish(&self, now: u64) -> Option<Wish>
+    /// The call that it wishes for while the session runs, if there is one that `extra` pays for.
+    pub fn wish(&self, now: u64, extra: u8) -> Option<Wish>
         ensures { (c : Command) (past : List Act) (s : ℕ) (w : Direct) → IsLane c past s w self.now → now ≡ last_moment past
-            → running c past s ≡ true → Fit c → LaneWishes c past s w self.now result }
+            → running c past s ≡ true → Fit c → LaneWishes c past s w self.now extra result }
     {
         let SessionLane::Formed(direction) = self else {
             return None;
         };
-        match direction.want(now) {
+        match direction.want(now, extra) {
             Want::Shut(how) => Some(Wish::Shut(direction.sink(), how)),
             Want::Write => Some(Wish::Write(direction.sink())),
             Want::Send => Some(Wish::Send(direction.sink())),
@@ -171,10 +181,37 @@ impl SessionLane {
             → IsLane c (transfer_act (place_for c s w transfer.entry) (waiting_in self.old) transfer.entry ∷ past) s w self.new }
         ensures fewer { (c : Command) (past : List Act) (s : ℕ) (w : Direct) → IsLane c past s w self.old
             → MayTransfer c past (place_for c s w transfer.entry) (waiting_in self.old) transfer.entry
-            → affords self.old transfer.entry ≡ true → lane_steps self.new < lane_steps self.old }
+            → lane_steps self.new < lane_steps self.old + price_of self.old transfer.entry }
     {
         if let SessionLane::Formed(direction) = self {
             hear(direction, now, transfer);
+        }
+    }
+
+    /// What a read at its input costs.
+    fn read_price(&self) -> u8
+        ensures { result ≡ read_price_in self.now }
+    {
+        match self {
+            SessionLane::Unformed => 0,
+            SessionLane::Formed(direction) => direction.read_price(),
+        }
+    }
+
+    /// What this transfer costs. An end is passed on for nothing.
+    fn price(&self, transfer: Transfer<'_>) -> u8
+        ensures { result ≡ price_of self.now transfer.entry }
+    {
+        match (self, transfer) {
+            (SessionLane::Unformed, _) => 0,
+            (_, Transfer::Shut(_) | Transfer::ShutFailed(_)) => 0,
+            (SessionLane::Formed(direction), transfer) => {
+                if transfer.is_read() {
+                    direction.read_price()
+                } else {
+                    direction.write_price()
+                }
+            }
         }
     }
 
@@ -195,8 +232,8 @@ impl SessionLane {
         ensures goes { (c : Command) (past : List Act) (s : ℕ) (w : Direct) → IsLane c past s w self.old
             → MayRead c past (input c s w) count
             → IsLane c (acts.Read (input c s w) (take count block.old.items) ∷ past) s w self.new }
-        ensures fewer { can_read_in self.old ≡ true → (c : Command) (past : List Act) (s : ℕ) (w : Direct)
-            → IsLane c past s w self.old → MayRead c past (input c s w) count → lane_steps self.new < lane_steps self.old }
+        ensures fewer { (c : Command) (past : List Act) (s : ℕ) (w : Direct) → IsLane c past s w self.old
+            → MayRead c past (input c s w) count → lane_steps self.new < lane_steps self.old + read_price_in self.old }
         ensures block { vec_len block.new ≡ vec_len block.old }
     {
         match self {
@@ -243,11 +280,14 @@ impl SessionLane {
     }
 }
 
-/// The direction from left to right and the one from right to left.
+/// The direction from left to right and the one from right to left, with what they share.
 #[derive(Drop)]
 pub struct Lanes {
     pub to_right: SessionLane,
     pub to_left: SessionLane,
+    /// How much a turn grants them for asks beyond the first of each half, and how much of it is left.
+    pub grant: u8,
+    pub extra: u8,
 }
 
 impl Lanes {
@@ -260,17 +300,29 @@ impl Lanes {
     {
         let to_right = SessionLane::new(alloc, config, number, Way::LeftToRight)?;
         let to_left = SessionLane::new(alloc, config, number, Way::RightToLeft)?;
-        Ok(Lanes { to_right, to_left })
+        let grant = granted(config);
+        Ok(Lanes {
+            to_right,
+            to_left,
+            grant,
+            extra: grant,
+        })
     }
 
-    /// The call that a direction wishes for while the session runs, the one to the right first.
+    /// The call that a direction wishes for while the session runs, the one to the right first. While the other has work
+    /// too, half of the grant is kept for it.
     pub fn wish(&self, now: u64) -> Option<Wish>
         ensures { (c : Command) (past : List Act) (s : ℕ) → AreLanes c past s self.now → now ≡ last_moment past
             → running c past s ≡ true → Fit c → LanesWish c past s self.now result }
     {
-        match self.to_right.wish(now) {
+        let kept = if self.to_left.works(now) {
+            self.grant / 2
+        } else {
+            0
+        };
+        match self.to_right.wish(now, self.extra.saturating_sub(kept)) {
             Some(wish) => Some(wish),
-            None => self.to_left.wish(now),
+            None => self.to_left.wish(now, self.extra),
         }
     }
 
@@ -361,10 +413,12 @@ impl Lanes {
     {
         match way_of(place, transfer) {
             Way::LeftToRight => {
+                self.extra = self.extra.saturating_sub(self.to_right.price(transfer));
                 self.to_right.hear(now, transfer);
                 self.to_left.stay();
             }
             Way::RightToLeft => {
+                self.extra = self.extra.saturating_sub(self.to_left.price(transfer));
                 self.to_right.stay();
                 self.to_left.hear(now, transfer);
             }
@@ -395,10 +449,12 @@ impl Lanes {
     {
         match place.side {
             Side::Left => {
+                self.extra = self.extra.saturating_sub(self.to_right.read_price());
                 self.to_right.hear_block(block, count);
                 self.to_left.stay();
             }
             Side::Right => {
+                self.extra = self.extra.saturating_sub(self.to_left.read_price());
                 self.to_right.stay();
                 self.to_left.hear_block(block, count);
             }
@@ -412,6 +468,7 @@ impl Lanes {
     {
         self.to_right.wake();
         self.to_left.wake();
+        self.extra = self.grant;
     }
 
     /// The last turn names this half too.
@@ -438,6 +495,16 @@ impl Lanes {
     }
 }
 
+/// How much a turn grants the directions of a session: what the openings and the calls that cost nothing leave.
+fn granted(config: &Config) -> u8
+    ensures { result ≡ granted config.now }
+{
+    let places = parts(config, Side::Left).len() + parts(config, Side::Right).len();
+    let both = is_formed(config, Way::LeftToRight) && is_formed(config, Way::RightToLeft);
+    let directions = if both { 2 } else { 1 };
+    (MOST_CALLS - OPENING_CALLS * places - FREE_CALLS * directions) as u8
+}
+
 /// The direction of a transfer at this place.
 fn way_of(place: Place, transfer: Transfer<'_>) -> Way
     ensures { result ≡ way_of place transfer.entry }
@@ -457,7 +524,7 @@ fn hear(direction: &mut Direction, now: u64, transfer: Transfer<'_>)
         past) s w direction.new }
     ensures fewer { (c : Command) (past : List Act) (s : ℕ) (w : Direct) → IsDirection c past s w direction.old
         → MayTransfer c past (place_for c s w transfer.entry) direction.old.flow.backlog transfer.entry
-        → affords (SessionLane.Formed direction.old) transfer.entry ≡ true → steps_in direction.new < steps_in direction.old }
+        → steps_in direction.new < steps_in direction.old + price_of (SessionLane.Formed direction.old) transfer.entry }
 {
     match transfer {
         Transfer::Read(bytes) => direction.hear_read(fit(bytes, direction.room())),

@@ -29,21 +29,13 @@ use Rattle.session_direction.specs.States.{DirectionState}
 use Rattle.session_direction.specs.Directions.{IsDirection, IsSpent, as_pieces, listed, met_last, terms_of}
 use Rattle.session_direction.proofs.Pieces.{pieces_read, waits_or_reads, pieces_written}
 
--- ---- the budget
-
--- fewer further asks are left
-pub with_less : (c : Config) (past : List Act) (s : ℕ) (w : Way) (d : DirectionState) (extra : ℕ) → extra ≤ d.extra → IsDirection c past s w d → IsDirection c past s w (record d { extra = extra })
-with_less c past s w d extra less f =
-    let within = f.extra_within in
-    record { is_formed = f.is_formed; source_is = f.source_is; sink_is = f.sink_is; ignores_end_is = f.ignores_end_is; ends_at_empty_is = f.ends_at_empty_is; sloppy_is = f.sloppy_is; how_is = f.how_is; gathers_is = f.gathers_is; grant_is = f.grant_is; extra_within = omega (arith, less, within); flow_is = f.flow_is; arming_is = f.arming_is; armed_out_is = f.armed_out_is; asked_in_is = f.asked_in_is; asked_out_is = f.asked_out_is; ended_is = f.ended_is; passed_is = f.passed_is; broken_is = f.broken_is; pieces_are = f.pieces_are; passed_is_spent = λ e. let k = f.passed_is_spent e in record { emptied = k.emptied; is_over = k.is_over } }
-
 -- ---- reads
 
 -- a read that found nothing yet
 pub read_not_yet : (c : Config) (past : List Act) (s : ℕ) (w : Way) (d : DirectionState) → IsDirection c past s w d → IsDirection c (ReadNotYet (input c s w) ∷ past) s w (record d { asked_in = true; arming = Disarmed })
 read_not_yet c past s w d f =
     let self = same_place_self (input c s w) in
-    record { is_formed = f.is_formed; source_is = f.source_is; sink_is = f.sink_is; ignores_end_is = f.ignores_end_is; ends_at_empty_is = f.ends_at_empty_is; sloppy_is = f.sloppy_is; how_is = f.how_is; gathers_is = f.gathers_is; grant_is = f.grant_is; extra_within = f.extra_within; flow_is = f.flow_is; arming_is = ap (λ b. cond b Disarmed (read_arming past (input c s w))) (sym self); armed_out_is = f.armed_out_is; asked_in_is = ap (λ b. b || asked_to_read past (input c s w)) (sym self); asked_out_is = f.asked_out_is; ended_is = f.ended_is; passed_is = f.passed_is; broken_is = f.broken_is; pieces_are = f.pieces_are; passed_is_spent = λ e. let k = f.passed_is_spent e in record { emptied = k.emptied; is_over = k.is_over } }
+    record { is_formed = f.is_formed; source_is = f.source_is; sink_is = f.sink_is; ignores_end_is = f.ignores_end_is; ends_at_empty_is = f.ends_at_empty_is; sloppy_is = f.sloppy_is; how_is = f.how_is; gathers_is = f.gathers_is; flow_is = f.flow_is; arming_is = ap (λ b. cond b Disarmed (read_arming past (input c s w))) (sym self); armed_out_is = f.armed_out_is; asked_in_is = ap (λ b. b || asked_to_read past (input c s w)) (sym self); asked_out_is = f.asked_out_is; ended_is = f.ended_is; passed_is = f.passed_is; broken_is = f.broken_is; pieces_are = f.pieces_are; passed_is_spent = λ e. let k = f.passed_is_spent e in record { emptied = k.emptied; is_over = k.is_over } }
 
 ended_empty : (ends keeps n : Bool) → (n || (ends || (keeps && n))) ≡ (ends || ((true || keeps) && n))
 ended_empty true true true = refl
@@ -85,7 +77,7 @@ read_empty c past s w d f =
     ap (λ n. n || d.ended) f.ends_at_empty_is ∙ ap (λ e. (options_of c (input c s w)).input.null_eof || e) f.ended_is
     ∙ ended_empty (met_end past (input c s w) && not (options_of c (input c s w)).input.ignoreeof) (met_empty past (input c s w)) (options_of c (input c s w)).input.null_eof
     ∙ ap (λ b. met_end past (input c s w) && not (options_of c (input c s w)).input.ignoreeof || (b || met_empty past (input c s w)) && (options_of c (input c s w)).input.null_eof) (sym self) in
-    record { is_formed = f.is_formed; source_is = f.source_is; sink_is = f.sink_is; ignores_end_is = f.ignores_end_is; ends_at_empty_is = f.ends_at_empty_is; sloppy_is = f.sloppy_is; how_is = f.how_is; gathers_is = f.gathers_is; grant_is = f.grant_is; extra_within = f.extra_within; flow_is = f.flow_is; arming_is = f.arming_is; armed_out_is = f.armed_out_is; asked_in_is = ap (λ b. b || asked_to_read past (input c s w)) (sym self); asked_out_is = f.asked_out_is; ended_is = ended; passed_is = f.passed_is; broken_is = f.broken_is; pieces_are = f.pieces_are; passed_is_spent = λ e. let k = f.passed_is_spent e in record { emptied = k.emptied; is_over = still_over c past (ReadEmpty (input c s w) ∷ past) s w d d.ends_at_empty f.ended_is ended refl k.is_over } }
+    record { is_formed = f.is_formed; source_is = f.source_is; sink_is = f.sink_is; ignores_end_is = f.ignores_end_is; ends_at_empty_is = f.ends_at_empty_is; sloppy_is = f.sloppy_is; how_is = f.how_is; gathers_is = f.gathers_is; flow_is = f.flow_is; arming_is = f.arming_is; armed_out_is = f.armed_out_is; asked_in_is = ap (λ b. b || asked_to_read past (input c s w)) (sym self); asked_out_is = f.asked_out_is; ended_is = ended; passed_is = f.passed_is; broken_is = f.broken_is; pieces_are = f.pieces_are; passed_is_spent = λ e. let k = f.passed_is_spent e in record { emptied = k.emptied; is_over = still_over c past (ReadEmpty (input c s w) ∷ past) s w d d.ends_at_empty f.ended_is ended refl k.is_over } }
 
 -- an end that was met
 pub read_end : (c : Config) (past : List Act) (s : ℕ) (w : Way) (d : DirectionState) (at : ℕ) → at ≡ now past → IsDirection c past s w d → IsDirection c (ReadEnd (input c s w) ∷ past) s w (record d { asked_in = true; arming = AtEnd at; ended = not d.ignores_end || d.ended })
@@ -95,7 +87,7 @@ read_end c past s w d at clock f =
     ap (λ n. not n || d.ended) f.ignores_end_is ∙ ap (λ e. not (options_of c (input c s w)).input.ignoreeof || e) f.ended_is
     ∙ ended_end (met_end past (input c s w)) (met_empty past (input c s w) && (options_of c (input c s w)).input.null_eof) (options_of c (input c s w)).input.ignoreeof
     ∙ ap (λ b. (b || met_end past (input c s w)) && not (options_of c (input c s w)).input.ignoreeof || met_empty past (input c s w) && (options_of c (input c s w)).input.null_eof) (sym self) in
-    record { is_formed = f.is_formed; source_is = f.source_is; sink_is = f.sink_is; ignores_end_is = f.ignores_end_is; ends_at_empty_is = f.ends_at_empty_is; sloppy_is = f.sloppy_is; how_is = f.how_is; gathers_is = f.gathers_is; grant_is = f.grant_is; extra_within = f.extra_within; flow_is = f.flow_is; arming_is = ap AtEnd clock ∙ ap (λ b. cond b (AtEnd (now past)) (read_arming past (input c s w))) (sym self); armed_out_is = f.armed_out_is; asked_in_is = ap (λ b. b || asked_to_read past (input c s w)) (sym self); asked_out_is = f.asked_out_is; ended_is = ended; passed_is = f.passed_is; broken_is = f.broken_is; pieces_are = f.pieces_are; passed_is_spent = λ e. let k = f.passed_is_spent e in record { emptied = k.emptied; is_over = still_over c past (ReadEnd (input c s w) ∷ past) s w d (not d.ignores_end) f.ended_is ended refl k.is_over } }
+    record { is_formed = f.is_formed; source_is = f.source_is; sink_is = f.sink_is; ignores_end_is = f.ignores_end_is; ends_at_empty_is = f.ends_at_empty_is; sloppy_is = f.sloppy_is; how_is = f.how_is; gathers_is = f.gathers_is; flow_is = f.flow_is; arming_is = ap AtEnd clock ∙ ap (λ b. cond b (AtEnd (now past)) (read_arming past (input c s w))) (sym self); armed_out_is = f.armed_out_is; asked_in_is = ap (λ b. b || asked_to_read past (input c s w)) (sym self); asked_out_is = f.asked_out_is; ended_is = ended; passed_is = f.passed_is; broken_is = f.broken_is; pieces_are = f.pieces_are; passed_is_spent = λ e. let k = f.passed_is_spent e in record { emptied = k.emptied; is_over = still_over c past (ReadEnd (input c s w) ∷ past) s w d (not d.ignores_end) f.ended_is ended refl k.is_over } }
 
 broken_by_read : (sloppy b : Bool) (at was : ℕ) (read write : Option ℕ) → b ≡ true → at ≡ was → cond sloppy (Some at) None ≡ cond sloppy (or_else (cond b (Some was) read) write) None
 broken_by_read true b at was read write e clock = ap Some clock ∙ ap (λ b. or_else (cond b (Some was) read) write) (sym e)
@@ -110,7 +102,7 @@ broken_by_write false b at was read write e clock none = refl
 pub read_fault : (c : Config) (past : List Act) (s : ℕ) (w : Way) (d : DirectionState) (at : ℕ) → at ≡ now past → IsDirection c past s w d → IsDirection c (ReadFault (input c s w) ∷ past) s w (record d { asked_in = true; broken_at = cond d.sloppy (Some at) None })
 read_fault c past s w d at clock f =
     let self = same_place_self (input c s w) in
-    record { is_formed = f.is_formed; source_is = f.source_is; sink_is = f.sink_is; ignores_end_is = f.ignores_end_is; ends_at_empty_is = f.ends_at_empty_is; sloppy_is = f.sloppy_is; how_is = f.how_is; gathers_is = f.gathers_is; grant_is = f.grant_is; extra_within = f.extra_within; flow_is = f.flow_is; arming_is = f.arming_is; armed_out_is = f.armed_out_is; asked_in_is = ap (λ b. b || asked_to_read past (input c s w)) (sym self); asked_out_is = f.asked_out_is; ended_is = f.ended_is; passed_is = f.passed_is; broken_is = ap (λ b. cond b (Some at) None) f.sloppy_is ∙ broken_by_read c.sloppy (same_place (input c s w) (input c s w)) at (now past) (read_fault_at past (input c s w)) (write_fault_at past (output c s w)) self clock; pieces_are = f.pieces_are; passed_is_spent = λ e. let k = f.passed_is_spent e in record { emptied = k.emptied; is_over = k.is_over } }
+    record { is_formed = f.is_formed; source_is = f.source_is; sink_is = f.sink_is; ignores_end_is = f.ignores_end_is; ends_at_empty_is = f.ends_at_empty_is; sloppy_is = f.sloppy_is; how_is = f.how_is; gathers_is = f.gathers_is; flow_is = f.flow_is; arming_is = f.arming_is; armed_out_is = f.armed_out_is; asked_in_is = ap (λ b. b || asked_to_read past (input c s w)) (sym self); asked_out_is = f.asked_out_is; ended_is = f.ended_is; passed_is = f.passed_is; broken_is = ap (λ b. cond b (Some at) None) f.sloppy_is ∙ broken_by_read c.sloppy (same_place (input c s w) (input c s w)) at (now past) (read_fault_at past (input c s w)) (write_fault_at past (output c s w)) self clock; pieces_are = f.pieces_are; passed_is_spent = λ e. let k = f.passed_is_spent e in record { emptied = k.emptied; is_over = k.is_over } }
 
 -- what waits as packets after bytes were read
 pieces_after : (c : Config) (past : List Act) (s : ℕ) (w : Way) (d : DirectionState) (bytes : List ℕ) (flow : Flowing) → length bytes ≤ room_in d.flow → IsFlow (terms_of c w) (got past (input c s w) ++ bytes) (put past (output c s w)) flow → IsDirection c past s w d → keeps_borders c w ≡ true → due_pieces c (Read (input c s w) bytes ∷ past) s w ≡ sent past (output c s w) ++ as_pieces flow.backlog
@@ -128,7 +120,7 @@ pieces_after c past s w d bytes flow le filled f keeps =
 pub read_bytes : (c : Config) (past : List Act) (s : ℕ) (w : Way) (d : DirectionState) (bytes : List ℕ) (flow : Flowing) → length bytes ≤ room_in d.flow → passed c past s w ≡ false → IsFlow (terms_of c w) (got past (input c s w) ++ bytes) (put past (output c s w)) flow → IsDirection c past s w d → IsDirection c (Read (input c s w) bytes ∷ past) s w (record d { asked_in = true; asked_out = false; flow = flow })
 read_bytes c past s w d bytes flow le going filled f =
     let self = same_place_self (input c s w) in
-    record { is_formed = f.is_formed; source_is = f.source_is; sink_is = f.sink_is; ignores_end_is = f.ignores_end_is; ends_at_empty_is = f.ends_at_empty_is; sloppy_is = f.sloppy_is; how_is = f.how_is; gathers_is = f.gathers_is; grant_is = f.grant_is; extra_within = f.extra_within; flow_is = subst (λ b. IsFlow (terms_of c w) (joined b (got past (input c s w)) bytes) (put past (output c s w)) flow) (sym self) filled; arming_is = f.arming_is; armed_out_is = f.armed_out_is; asked_in_is = ap (λ b. b || asked_to_read past (input c s w)) (sym self); asked_out_is = ap (λ b. not b && asked_to_write past (input c s w) (output c s w)) (sym self); ended_is = f.ended_is; passed_is = f.passed_is; broken_is = f.broken_is; pieces_are = pieces_after c past s w d bytes flow le filled f; passed_is_spent = λ e. absurd (true≢false (sym e ∙ ap is_some f.passed_is ∙ going)) }
+    record { is_formed = f.is_formed; source_is = f.source_is; sink_is = f.sink_is; ignores_end_is = f.ignores_end_is; ends_at_empty_is = f.ends_at_empty_is; sloppy_is = f.sloppy_is; how_is = f.how_is; gathers_is = f.gathers_is; flow_is = subst (λ b. IsFlow (terms_of c w) (joined b (got past (input c s w)) bytes) (put past (output c s w)) flow) (sym self) filled; arming_is = f.arming_is; armed_out_is = f.armed_out_is; asked_in_is = ap (λ b. b || asked_to_read past (input c s w)) (sym self); asked_out_is = ap (λ b. not b && asked_to_write past (input c s w) (output c s w)) (sym self); ended_is = f.ended_is; passed_is = f.passed_is; broken_is = f.broken_is; pieces_are = pieces_after c past s w d bytes flow le filled f; passed_is_spent = λ e. absurd (true≢false (sym e ∙ ap is_some f.passed_is ∙ going)) }
 
 -- ---- writes
 
@@ -148,8 +140,6 @@ wrote_bytes c past s w d n some within whole going took f =
       sloppy_is = f.sloppy_is;
       how_is = f.how_is;
       gathers_is = f.gathers_is;
-      grant_is = f.grant_is;
-      extra_within = f.extra_within;
       flow_is = subst (λ b. IsFlow (terms_of c w) (got past (input c s w)) (joined b (put past (output c s w)) (take n d.flow.backlog)) (taken n d.flow)) (sym at_end) took;
       arming_is = f.arming_is;
       armed_out_is = f.armed_out_is;
@@ -178,13 +168,13 @@ wrote_some c past s w d n bytes flow these left some within whole going took f =
 pub write_not_yet : (c : Config) (past : List Act) (s : ℕ) (w : Way) (d : DirectionState) → IsDirection c past s w d → IsDirection c (WriteNotYet (output c s w) ∷ past) s w (record d { asked_out = true; armed_out = false })
 write_not_yet c past s w d f =
     let at_end = same_place_self (output c s w) in
-    record { is_formed = f.is_formed; source_is = f.source_is; sink_is = f.sink_is; ignores_end_is = f.ignores_end_is; ends_at_empty_is = f.ends_at_empty_is; sloppy_is = f.sloppy_is; how_is = f.how_is; gathers_is = f.gathers_is; grant_is = f.grant_is; extra_within = f.extra_within; flow_is = f.flow_is; arming_is = f.arming_is; armed_out_is = ap (λ b. not b && armed_to_write past (output c s w)) (sym at_end); asked_in_is = f.asked_in_is; asked_out_is = ap (λ b. b || asked_to_write past (input c s w) (output c s w)) (sym at_end); ended_is = f.ended_is; passed_is = f.passed_is; broken_is = f.broken_is; pieces_are = f.pieces_are; passed_is_spent = λ e. let k = f.passed_is_spent e in record { emptied = k.emptied; is_over = k.is_over } }
+    record { is_formed = f.is_formed; source_is = f.source_is; sink_is = f.sink_is; ignores_end_is = f.ignores_end_is; ends_at_empty_is = f.ends_at_empty_is; sloppy_is = f.sloppy_is; how_is = f.how_is; gathers_is = f.gathers_is; flow_is = f.flow_is; arming_is = f.arming_is; armed_out_is = ap (λ b. not b && armed_to_write past (output c s w)) (sym at_end); asked_in_is = f.asked_in_is; asked_out_is = ap (λ b. b || asked_to_write past (input c s w) (output c s w)) (sym at_end); ended_is = f.ended_is; passed_is = f.passed_is; broken_is = f.broken_is; pieces_are = f.pieces_are; passed_is_spent = λ e. let k = f.passed_is_spent e in record { emptied = k.emptied; is_over = k.is_over } }
 
 -- a write that failed
 pub write_fault : (c : Config) (past : List Act) (s : ℕ) (w : Way) (d : DirectionState) (at : ℕ) → at ≡ now past → broken c past s w ≡ false → IsDirection c past s w d → IsDirection c (WriteFault (output c s w) ∷ past) s w (record d { asked_out = true; broken_at = cond d.sloppy (Some at) None })
 write_fault c past s w d at clock whole f =
     let at_end = same_place_self (output c s w) in
-    record { is_formed = f.is_formed; source_is = f.source_is; sink_is = f.sink_is; ignores_end_is = f.ignores_end_is; ends_at_empty_is = f.ends_at_empty_is; sloppy_is = f.sloppy_is; how_is = f.how_is; gathers_is = f.gathers_is; grant_is = f.grant_is; extra_within = f.extra_within; flow_is = f.flow_is; arming_is = f.arming_is; armed_out_is = f.armed_out_is; asked_in_is = f.asked_in_is; asked_out_is = ap (λ b. b || asked_to_write past (input c s w) (output c s w)) (sym at_end); ended_is = f.ended_is; passed_is = f.passed_is; broken_is = ap (λ b. cond b (Some at) None) f.sloppy_is ∙ broken_by_write c.sloppy (same_place (output c s w) (output c s w)) at (now past) (read_fault_at past (input c s w)) (write_fault_at past (output c s w)) at_end clock whole; pieces_are = f.pieces_are; passed_is_spent = λ e. let k = f.passed_is_spent e in record { emptied = k.emptied; is_over = k.is_over } }
+    record { is_formed = f.is_formed; source_is = f.source_is; sink_is = f.sink_is; ignores_end_is = f.ignores_end_is; ends_at_empty_is = f.ends_at_empty_is; sloppy_is = f.sloppy_is; how_is = f.how_is; gathers_is = f.gathers_is; flow_is = f.flow_is; arming_is = f.arming_is; armed_out_is = f.armed_out_is; asked_in_is = f.asked_in_is; asked_out_is = ap (λ b. b || asked_to_write past (input c s w) (output c s w)) (sym at_end); ended_is = f.ended_is; passed_is = f.passed_is; broken_is = ap (λ b. cond b (Some at) None) f.sloppy_is ∙ broken_by_write c.sloppy (same_place (output c s w) (output c s w)) at (now past) (read_fault_at past (input c s w)) (write_fault_at past (output c s w)) at_end clock whole; pieces_are = f.pieces_are; passed_is_spent = λ e. let k = f.passed_is_spent e in record { emptied = k.emptied; is_over = k.is_over } }
 
 -- ---- the end
 
@@ -192,30 +182,30 @@ write_fault c past s w d at clock whole f =
 pub shut : (c : Config) (past : List Act) (s : ℕ) (w : Way) (d : DirectionState) (at : ℕ) (way : Shutting) → at ≡ now past → IsSpent c past s w d → IsDirection c past s w d → IsDirection c (Shut (output c s w) way ∷ past) s w (record d { passed_at = Some at })
 shut c past s w d at way clock spent f =
     let at_end = same_place_self (output c s w) in
-    record { is_formed = f.is_formed; source_is = f.source_is; sink_is = f.sink_is; ignores_end_is = f.ignores_end_is; ends_at_empty_is = f.ends_at_empty_is; sloppy_is = f.sloppy_is; how_is = f.how_is; gathers_is = f.gathers_is; grant_is = f.grant_is; extra_within = f.extra_within; flow_is = f.flow_is; arming_is = f.arming_is; armed_out_is = f.armed_out_is; asked_in_is = f.asked_in_is; asked_out_is = f.asked_out_is; ended_is = f.ended_is; passed_is = ap Some clock ∙ ap (λ b. cond b (Some (now past)) (shut_at past (output c s w))) (sym at_end); broken_is = f.broken_is; pieces_are = f.pieces_are; passed_is_spent = λ e. record { emptied = spent.emptied; is_over = spent.is_over } }
+    record { is_formed = f.is_formed; source_is = f.source_is; sink_is = f.sink_is; ignores_end_is = f.ignores_end_is; ends_at_empty_is = f.ends_at_empty_is; sloppy_is = f.sloppy_is; how_is = f.how_is; gathers_is = f.gathers_is; flow_is = f.flow_is; arming_is = f.arming_is; armed_out_is = f.armed_out_is; asked_in_is = f.asked_in_is; asked_out_is = f.asked_out_is; ended_is = f.ended_is; passed_is = ap Some clock ∙ ap (λ b. cond b (Some (now past)) (shut_at past (output c s w))) (sym at_end); broken_is = f.broken_is; pieces_are = f.pieces_are; passed_is_spent = λ e. record { emptied = spent.emptied; is_over = spent.is_over } }
 
 -- an end that couldn't be passed on
 pub shut_fault : (c : Config) (past : List Act) (s : ℕ) (w : Way) (d : DirectionState) (at : ℕ) (way : Shutting) → at ≡ now past → IsSpent c past s w d → IsDirection c past s w d → IsDirection c (ShutFault (output c s w) way ∷ past) s w (record d { passed_at = Some at })
 shut_fault c past s w d at way clock spent f =
     let at_end = same_place_self (output c s w) in
-    record { is_formed = f.is_formed; source_is = f.source_is; sink_is = f.sink_is; ignores_end_is = f.ignores_end_is; ends_at_empty_is = f.ends_at_empty_is; sloppy_is = f.sloppy_is; how_is = f.how_is; gathers_is = f.gathers_is; grant_is = f.grant_is; extra_within = f.extra_within; flow_is = f.flow_is; arming_is = f.arming_is; armed_out_is = f.armed_out_is; asked_in_is = f.asked_in_is; asked_out_is = f.asked_out_is; ended_is = f.ended_is; passed_is = ap Some clock ∙ ap (λ b. cond b (Some (now past)) (shut_at past (output c s w))) (sym at_end); broken_is = f.broken_is; pieces_are = f.pieces_are; passed_is_spent = λ e. record { emptied = spent.emptied; is_over = spent.is_over } }
+    record { is_formed = f.is_formed; source_is = f.source_is; sink_is = f.sink_is; ignores_end_is = f.ignores_end_is; ends_at_empty_is = f.ends_at_empty_is; sloppy_is = f.sloppy_is; how_is = f.how_is; gathers_is = f.gathers_is; flow_is = f.flow_is; arming_is = f.arming_is; armed_out_is = f.armed_out_is; asked_in_is = f.asked_in_is; asked_out_is = f.asked_out_is; ended_is = f.ended_is; passed_is = ap Some clock ∙ ap (λ b. cond b (Some (now past)) (shut_at past (output c s w))) (sym at_end); broken_is = f.broken_is; pieces_are = f.pieces_are; passed_is_spent = λ e. record { emptied = spent.emptied; is_over = spent.is_over } }
 
 -- ---- openings and turns
 
 -- a place that was opened
 pub opened : (c : Config) (past : List Act) (s : ℕ) (w : Way) (d : DirectionState) (place : Place) → IsDirection c past s w d → IsDirection c (Opened place ∷ past) s w (record d { arming = cond (same_place place d.source) Armed d.arming; armed_out = same_place place d.sink || d.armed_out })
 opened c past s w d place f =
-    record { is_formed = f.is_formed; source_is = f.source_is; sink_is = f.sink_is; ignores_end_is = f.ignores_end_is; ends_at_empty_is = f.ends_at_empty_is; sloppy_is = f.sloppy_is; how_is = f.how_is; gathers_is = f.gathers_is; grant_is = f.grant_is; extra_within = f.extra_within; flow_is = f.flow_is; arming_is = ap (λ p. cond (same_place place p) Armed d.arming) f.source_is ∙ ap (cond (same_place place (input c s w)) Armed) f.arming_is; armed_out_is = ap (λ p. same_place place p || d.armed_out) f.sink_is ∙ ap (λ b. same_place place (output c s w) || b) f.armed_out_is; asked_in_is = f.asked_in_is; asked_out_is = f.asked_out_is; ended_is = f.ended_is; passed_is = f.passed_is; broken_is = f.broken_is; pieces_are = f.pieces_are; passed_is_spent = λ e. let k = f.passed_is_spent e in record { emptied = k.emptied; is_over = k.is_over } }
+    record { is_formed = f.is_formed; source_is = f.source_is; sink_is = f.sink_is; ignores_end_is = f.ignores_end_is; ends_at_empty_is = f.ends_at_empty_is; sloppy_is = f.sloppy_is; how_is = f.how_is; gathers_is = f.gathers_is; flow_is = f.flow_is; arming_is = ap (λ p. cond (same_place place p) Armed d.arming) f.source_is ∙ ap (cond (same_place place (input c s w)) Armed) f.arming_is; armed_out_is = ap (λ p. same_place place p || d.armed_out) f.sink_is ∙ ap (λ b. same_place place (output c s w) || b) f.armed_out_is; asked_in_is = f.asked_in_is; asked_out_is = f.asked_out_is; ended_is = f.ended_is; passed_is = f.passed_is; broken_is = f.broken_is; pieces_are = f.pieces_are; passed_is_spent = λ e. let k = f.passed_is_spent e in record { emptied = k.emptied; is_over = k.is_over } }
 
 -- a place at which a peer was accepted
 pub accepted : (c : Config) (past : List Act) (s : ℕ) (w : Way) (d : DirectionState) (place : Place) (peer : Peer) → IsDirection c past s w d → IsDirection c (Accepted place peer ∷ past) s w (record d { arming = cond (same_place place d.source) Armed d.arming; armed_out = same_place place d.sink || d.armed_out })
 accepted c past s w d place peer f =
-    record { is_formed = f.is_formed; source_is = f.source_is; sink_is = f.sink_is; ignores_end_is = f.ignores_end_is; ends_at_empty_is = f.ends_at_empty_is; sloppy_is = f.sloppy_is; how_is = f.how_is; gathers_is = f.gathers_is; grant_is = f.grant_is; extra_within = f.extra_within; flow_is = f.flow_is; arming_is = ap (λ p. cond (same_place place p) Armed d.arming) f.source_is ∙ ap (cond (same_place place (input c s w)) Armed) f.arming_is; armed_out_is = ap (λ p. same_place place p || d.armed_out) f.sink_is ∙ ap (λ b. same_place place (output c s w) || b) f.armed_out_is; asked_in_is = f.asked_in_is; asked_out_is = f.asked_out_is; ended_is = f.ended_is; passed_is = f.passed_is; broken_is = f.broken_is; pieces_are = f.pieces_are; passed_is_spent = λ e. let k = f.passed_is_spent e in record { emptied = k.emptied; is_over = k.is_over } }
+    record { is_formed = f.is_formed; source_is = f.source_is; sink_is = f.sink_is; ignores_end_is = f.ignores_end_is; ends_at_empty_is = f.ends_at_empty_is; sloppy_is = f.sloppy_is; how_is = f.how_is; gathers_is = f.gathers_is; flow_is = f.flow_is; arming_is = ap (λ p. cond (same_place place p) Armed d.arming) f.source_is ∙ ap (cond (same_place place (input c s w)) Armed) f.arming_is; armed_out_is = ap (λ p. same_place place p || d.armed_out) f.sink_is ∙ ap (λ b. same_place place (output c s w) || b) f.armed_out_is; asked_in_is = f.asked_in_is; asked_out_is = f.asked_out_is; ended_is = f.ended_is; passed_is = f.passed_is; broken_is = f.broken_is; pieces_are = f.pieces_are; passed_is_spent = λ e. let k = f.passed_is_spent e in record { emptied = k.emptied; is_over = k.is_over } }
 
 -- a turn that names nothing yet
 pub woken : (c : Config) (past : List Act) (s : ℕ) (w : Way) (d : DirectionState) (until : Option ℕ) (at : ℕ) → IsDirection c past s w d → IsDirection c (Turn until at (listed []) false ∷ past) s w (record d { asked_in = false; asked_out = false })
 woken c past s w d until at f =
-    record { is_formed = f.is_formed; source_is = f.source_is; sink_is = f.sink_is; ignores_end_is = f.ignores_end_is; ends_at_empty_is = f.ends_at_empty_is; sloppy_is = f.sloppy_is; how_is = f.how_is; gathers_is = f.gathers_is; grant_is = f.grant_is; extra_within = f.extra_within; flow_is = f.flow_is; arming_is = f.arming_is; armed_out_is = f.armed_out_is; asked_in_is = refl; asked_out_is = refl; ended_is = f.ended_is; passed_is = f.passed_is; broken_is = f.broken_is; pieces_are = f.pieces_are; passed_is_spent = λ e. let k = f.passed_is_spent e in record { emptied = k.emptied; is_over = k.is_over } }
+    record { is_formed = f.is_formed; source_is = f.source_is; sink_is = f.sink_is; ignores_end_is = f.ignores_end_is; ends_at_empty_is = f.ends_at_empty_is; sloppy_is = f.sloppy_is; how_is = f.how_is; gathers_is = f.gathers_is; flow_is = f.flow_is; arming_is = f.arming_is; armed_out_is = f.armed_out_is; asked_in_is = refl; asked_out_is = refl; ended_is = f.ended_is; passed_is = f.passed_is; broken_is = f.broken_is; pieces_are = f.pieces_are; passed_is_spent = λ e. let k = f.passed_is_spent e in record { emptied = k.emptied; is_over = k.is_over } }
 
 or_not : (a b : Bool) → ((a && b) || false) ≡ (b && a)
 or_not true true = refl
@@ -261,13 +251,13 @@ or_swap false b before = refl
 -- a turn that names the input's half too, and one that names the output's
 pub named_to_read : (c : Config) (past : List Act) (s : ℕ) (w : Way) (d : DirectionState) (until : Option ℕ) (at : ℕ) (xs : List ReadyAt) (e : ReadyAt) → e.half ≡ ToRead → IsDirection c (Turn until at (listed xs) false ∷ past) s w d → IsDirection c (Turn until at (listed (xs ++ e ∷ [])) false ∷ past) s w (record d { arming = cond (same_place e.place d.source) Armed d.arming })
 named_to_read c past s w d until at xs e half f =
-    record { is_formed = f.is_formed; source_is = f.source_is; sink_is = f.sink_is; ignores_end_is = f.ignores_end_is; ends_at_empty_is = f.ends_at_empty_is; sloppy_is = f.sloppy_is; how_is = f.how_is; gathers_is = f.gathers_is; grant_is = f.grant_is; extra_within = f.extra_within; flow_is = f.flow_is; arming_is = ap (λ p. cond (same_place e.place p) Armed d.arming) f.source_is ∙ ap (cond (same_place e.place (input c s w)) Armed) f.arming_is ∙ armed_more (names xs (input c s w) ToRead) (same_place e.place (input c s w)) (read_arming past (input c s w)) ∙ ap (λ b. cond b Armed (read_arming past (input c s w))) (sym (names_half xs e (input c s w) ToRead (ap (λ h. same_half h ToRead) half))); armed_out_is = f.armed_out_is ∙ ap (λ b. b || armed_to_write past (output c s w)) (sym (names_other xs e (output c s w) ToWrite (ap (λ h. same_half h ToWrite) half))); asked_in_is = f.asked_in_is; asked_out_is = f.asked_out_is; ended_is = f.ended_is; passed_is = f.passed_is; broken_is = f.broken_is; pieces_are = f.pieces_are; passed_is_spent = λ e. let k = f.passed_is_spent e in record { emptied = k.emptied; is_over = k.is_over } }
+    record { is_formed = f.is_formed; source_is = f.source_is; sink_is = f.sink_is; ignores_end_is = f.ignores_end_is; ends_at_empty_is = f.ends_at_empty_is; sloppy_is = f.sloppy_is; how_is = f.how_is; gathers_is = f.gathers_is; flow_is = f.flow_is; arming_is = ap (λ p. cond (same_place e.place p) Armed d.arming) f.source_is ∙ ap (cond (same_place e.place (input c s w)) Armed) f.arming_is ∙ armed_more (names xs (input c s w) ToRead) (same_place e.place (input c s w)) (read_arming past (input c s w)) ∙ ap (λ b. cond b Armed (read_arming past (input c s w))) (sym (names_half xs e (input c s w) ToRead (ap (λ h. same_half h ToRead) half))); armed_out_is = f.armed_out_is ∙ ap (λ b. b || armed_to_write past (output c s w)) (sym (names_other xs e (output c s w) ToWrite (ap (λ h. same_half h ToWrite) half))); asked_in_is = f.asked_in_is; asked_out_is = f.asked_out_is; ended_is = f.ended_is; passed_is = f.passed_is; broken_is = f.broken_is; pieces_are = f.pieces_are; passed_is_spent = λ e. let k = f.passed_is_spent e in record { emptied = k.emptied; is_over = k.is_over } }
 
 pub named_to_write : (c : Config) (past : List Act) (s : ℕ) (w : Way) (d : DirectionState) (until : Option ℕ) (at : ℕ) (xs : List ReadyAt) (e : ReadyAt) → e.half ≡ ToWrite → IsDirection c (Turn until at (listed xs) false ∷ past) s w d → IsDirection c (Turn until at (listed (xs ++ e ∷ [])) false ∷ past) s w (record d { armed_out = same_place e.place d.sink || d.armed_out })
 named_to_write c past s w d until at xs e half f =
-    record { is_formed = f.is_formed; source_is = f.source_is; sink_is = f.sink_is; ignores_end_is = f.ignores_end_is; ends_at_empty_is = f.ends_at_empty_is; sloppy_is = f.sloppy_is; how_is = f.how_is; gathers_is = f.gathers_is; grant_is = f.grant_is; extra_within = f.extra_within; flow_is = f.flow_is; arming_is = f.arming_is ∙ ap (λ b. cond b Armed (read_arming past (input c s w))) (sym (names_other xs e (input c s w) ToRead (ap (λ h. same_half h ToRead) half))); armed_out_is = ap (λ p. same_place e.place p || d.armed_out) f.sink_is ∙ ap (λ b. same_place e.place (output c s w) || b) f.armed_out_is ∙ or_swap (names xs (output c s w) ToWrite) (same_place e.place (output c s w)) (armed_to_write past (output c s w)) ∙ ap (λ b. b || armed_to_write past (output c s w)) (sym (names_half xs e (output c s w) ToWrite (ap (λ h. same_half h ToWrite) half))); asked_in_is = f.asked_in_is; asked_out_is = f.asked_out_is; ended_is = f.ended_is; passed_is = f.passed_is; broken_is = f.broken_is; pieces_are = f.pieces_are; passed_is_spent = λ e. let k = f.passed_is_spent e in record { emptied = k.emptied; is_over = k.is_over } }
+    record { is_formed = f.is_formed; source_is = f.source_is; sink_is = f.sink_is; ignores_end_is = f.ignores_end_is; ends_at_empty_is = f.ends_at_empty_is; sloppy_is = f.sloppy_is; how_is = f.how_is; gathers_is = f.gathers_is; flow_is = f.flow_is; arming_is = f.arming_is ∙ ap (λ b. cond b Armed (read_arming past (input c s w))) (sym (names_other xs e (input c s w) ToRead (ap (λ h. same_half h ToRead) half))); armed_out_is = ap (λ p. same_place e.place p || d.armed_out) f.sink_is ∙ ap (λ b. same_place e.place (output c s w) || b) f.armed_out_is ∙ or_swap (names xs (output c s w) ToWrite) (same_place e.place (output c s w)) (armed_to_write past (output c s w)) ∙ ap (λ b. b || armed_to_write past (output c s w)) (sym (names_half xs e (output c s w) ToWrite (ap (λ h. same_half h ToWrite) half))); asked_in_is = f.asked_in_is; asked_out_is = f.asked_out_is; ended_is = f.ended_is; passed_is = f.passed_is; broken_is = f.broken_is; pieces_are = f.pieces_are; passed_is_spent = λ e. let k = f.passed_is_spent e in record { emptied = k.emptied; is_over = k.is_over } }
 
 -- a turn that stops says the same as one that doesn't
 pub stopped : (c : Config) (past : List Act) (s : ℕ) (w : Way) (d : DirectionState) (until : Option ℕ) (at : ℕ) (ready : Listed) → IsDirection c (Turn until at ready false ∷ past) s w d → IsDirection c (Turn until at ready true ∷ past) s w d
 stopped c past s w d until at ready f =
-    record { is_formed = f.is_formed; source_is = f.source_is; sink_is = f.sink_is; ignores_end_is = f.ignores_end_is; ends_at_empty_is = f.ends_at_empty_is; sloppy_is = f.sloppy_is; how_is = f.how_is; gathers_is = f.gathers_is; grant_is = f.grant_is; extra_within = f.extra_within; flow_is = f.flow_is; arming_is = f.arming_is; armed_out_is = f.armed_out_is; asked_in_is = f.asked_in_is; asked_out_is = f.asked_out_is; ended_is = f.ended_is; passed_is = f.passed_is; broken_is = f.broken_is; pieces_are = f.pieces_are; passed_is_spent = λ e. let k = f.passed_is_spent e in record { emptied = k.emptied; is_over = k.is_over } }
+    record { is_formed = f.is_formed; source_is = f.source_is; sink_is = f.sink_is; ignores_end_is = f.ignores_end_is; ends_at_empty_is = f.ends_at_empty_is; sloppy_is = f.sloppy_is; how_is = f.how_is; gathers_is = f.gathers_is; flow_is = f.flow_is; arming_is = f.arming_is; armed_out_is = f.armed_out_is; asked_in_is = f.asked_in_is; asked_out_is = f.asked_out_is; ended_is = f.ended_is; passed_is = f.passed_is; broken_is = f.broken_is; pieces_are = f.pieces_are; passed_is_spent = λ e. let k = f.passed_is_spent e in record { emptied = k.emptied; is_over = k.is_over } }

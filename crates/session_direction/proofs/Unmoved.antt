@@ -68,4 +68,4 @@ over_same c s w one other k =
 pub unmoved_by : (c : Config) (past : List Act) (s : ℕ) (w : Way) (d : DirectionState) (act : Act) → touches c s w act ≡ false → IsDirection c past s w d → IsDirection c (act ∷ past) s w d
 unmoved_by c past s w d act e f =
     let k = same_for c past s w act e in
-    record { is_formed = f.is_formed; source_is = f.source_is; sink_is = f.sink_is; ignores_end_is = f.ignores_end_is; ends_at_empty_is = f.ends_at_empty_is; sloppy_is = f.sloppy_is; how_is = f.how_is; gathers_is = f.gathers_is; grant_is = f.grant_is; extra_within = f.extra_within; flow_is = subst (λ x. IsFlow (terms_of c w) x (put (act ∷ past) (output c s w)) d.flow) (sym k.got_same) (subst (λ y. IsFlow (terms_of c w) (got past (input c s w)) y d.flow) (sym k.put_same) f.flow_is); arming_is = f.arming_is ∙ sym k.arming_same; armed_out_is = f.armed_out_is ∙ sym k.armed_out_same; asked_in_is = f.asked_in_is ∙ sym k.asked_in_same; asked_out_is = f.asked_out_is ∙ sym k.asked_out_same; ended_is = f.ended_is ∙ sym (last_same c s w (act ∷ past) past k); passed_is = f.passed_is ∙ sym k.shut_same; broken_is = f.broken_is ∙ sym (ap (λ o. cond c.sloppy (or_else o (write_fault_at (act ∷ past) (output c s w))) None) k.read_fault_same ∙ ap (λ o. cond c.sloppy (or_else (read_fault_at past (input c s w)) o) None) k.write_fault_same); pieces_are = λ keeps. k.pieces_same ∙ f.pieces_are keeps ∙ ap (λ l. l ++ as_pieces d.flow.backlog) (sym k.sent_same); passed_is_spent = λ t. let h = f.passed_is_spent t in record { emptied = h.emptied; is_over = over_same c s w (act ∷ past) past k ∙ h.is_over } }
+    record { is_formed = f.is_formed; source_is = f.source_is; sink_is = f.sink_is; ignores_end_is = f.ignores_end_is; ends_at_empty_is = f.ends_at_empty_is; sloppy_is = f.sloppy_is; how_is = f.how_is; gathers_is = f.gathers_is; flow_is = subst (λ x. IsFlow (terms_of c w) x (put (act ∷ past) (output c s w)) d.flow) (sym k.got_same) (subst (λ y. IsFlow (terms_of c w) (got past (input c s w)) y d.flow) (sym k.put_same) f.flow_is); arming_is = f.arming_is ∙ sym k.arming_same; armed_out_is = f.armed_out_is ∙ sym k.armed_out_same; asked_in_is = f.asked_in_is ∙ sym k.asked_in_same; asked_out_is = f.asked_out_is ∙ sym k.asked_out_same; ended_is = f.ended_is ∙ sym (last_same c s w (act ∷ past) past k); passed_is = f.passed_is ∙ sym k.shut_same; broken_is = f.broken_is ∙ sym (ap (λ o. cond c.sloppy (or_else o (write_fault_at (act ∷ past) (output c s w))) None) k.read_fault_same ∙ ap (λ o. cond c.sloppy (or_else (read_fault_at past (input c s w)) o) None) k.write_fault_same); pieces_are = λ keeps. k.pieces_same ∙ f.pieces_are keeps ∙ ap (λ l. l ++ as_pieces d.flow.backlog) (sym k.sent_same); passed_is_spent = λ t. let h = f.passed_is_spent t in record { emptied = h.emptied; is_over = over_same c s w (act ∷ past) past k ∙ h.is_over } }

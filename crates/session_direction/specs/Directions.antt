@@ -1,11 +1,9 @@
 -- What a direction stands for after a list of acts, and what its wants say of it.
-use Rattle.std.specs.Prelude.{◌≡◌, ℕ, ◌+◌, ◌-◌, ◌*◌, ◌/◌, ◌≤◌, Bool, true, false, not, ◌&&◌, ◌||◌, List, [], ◌∷◌, ◌++◌, length, is_some, if◌then◌else◌}
-use Rattle.relay_model.specs.declared.places.Side.TheVariants.{Left, Right}
-use Rattle.relay_model.specs.{Way, Config, Act, ReadyAt, Listed, only_if, parts, input, output, formed, options_of, medium_of, keeps_borders, how}
+use Rattle.std.specs.Prelude.{◌≡◌, ℕ, ◌≤◌, Bool, true, false, not, ◌&&◌, ◌||◌, List, [], ◌∷◌, ◌++◌, is_some}
+use Rattle.relay_model.specs.{Way, Config, Act, ReadyAt, Listed, only_if, input, output, formed, options_of, medium_of, keeps_borders, how}
 use Rattle.relay_model.specs.{Medium, packet_cap, got, put, sent, met_end, met_empty, read_arming, armed_to_read, armed_to_write, asked_to_read}
 use Rattle.relay_model.specs.{asked_to_write, due_pieces, over, backlog, greatest_read, passed_at, broken_at, is_going, owes_read, owes_write}
 use Rattle.relay_model.specs.{must_pass, MayRead, MayTryWrite, MayShut}
-use Rattle.relay_model.specs.declared.places.Way.TheVariants.{LeftToRight, RightToLeft}
 use Rattle.relay_model.specs.declared.media.Medium.TheVariants.{Standard, Storage, Program, Connection, Datagrams}
 use Rattle.relay_buffer.specs.{Lane, IsFlow, room_in}
 use Rattle.session_direction.specs.declared.directions.Want.{Want}
@@ -37,16 +35,6 @@ met_last c past s w =
     met_end past (input c s w) && not (options_of c (input c s w)).input.ignoreeof
     || met_empty past (input c s w) && (options_of c (input c s w)).input.null_eof
 
--- of at most 64 calls of a session between two turns, those that are left to its directions: each of its places may take
--- seven until it is ready
-abbrev pub left_to_directions : Config → ℕ
-left_to_directions c = 64 - 7 * (length (parts c Left) + length (parts c Right))
-
--- how much a turn grants a direction for further asks: what is left, or half of it where the session has two directions,
--- without four calls that no grant pays
-abbrev pub granted : Config → ℕ
-granted c = (if formed c LeftToRight && formed c RightToLeft then left_to_directions c / 2 else left_to_directions c) - 4
-
 -- the bytes as one piece, or no piece where there are none
 abbrev pub as_pieces : List ℕ → List (List ℕ)
 as_pieces [] = []
@@ -57,7 +45,7 @@ pub record IsSpent (c : Config) (past : List Act) (s : ℕ) (w : Way) (d : Direc
   pub emptied : d.flow.backlog ≡ []
   pub is_over : over c past (input c s w) ≡ true
 
--- each field but `extra` is what the list of acts says
+-- each field is what the list of acts says
 pub record IsDirection (c : Config) (past : List Act) (s : ℕ) (w : Way) (d : DirectionState) : Type 0 where
   -- what the command says of it
   pub is_formed : formed c w ≡ true
@@ -70,13 +58,11 @@ pub record IsDirection (c : Config) (past : List Act) (s : ℕ) (w : Way) (d : D
   pub gathers_is : d.gathers ≡ is_gathered (medium_of c (input c s w))
   -- its bytes
   pub flow_is : IsFlow (terms_of c w) (got past (input c s w)) (put past (output c s w)) d.flow
-  -- what may be asked, what was asked, and how much a turn grants
+  -- what may be asked, and what was asked
   pub arming_is : d.arming ≡ read_arming past (input c s w)
   pub armed_out_is : d.armed_out ≡ armed_to_write past (output c s w)
   pub asked_in_is : d.asked_in ≡ asked_to_read past (input c s w)
   pub asked_out_is : d.asked_out ≡ asked_to_write past (input c s w) (output c s w)
-  pub grant_is : d.grant ≡ granted c
-  pub extra_within : d.extra ≤ d.grant
   -- whether its end was met and passed on, and whether it is broken
   pub ended_is : d.ended ≡ met_last c past s w
   pub passed_is : d.passed_at ≡ passed_at c past s w
@@ -116,12 +102,12 @@ Wants c past s w wants.Send = WantsWrite c past s w true
 Wants c past s w (wants.Read n) = WantsRead c past s w n
 Wants c past s w wants.Nothing = WantsNothing c past s w
 
--- what is wanted wasn't asked since the last turn, or can be paid for
-abbrev pub Affords : DirectionState → Want → Type 0
-Affords d (wants.Read n) = can_read d ≡ true
-Affords d wants.Write = can_write d ≡ true
-Affords d wants.Send = can_write d ≡ true
-Affords d other = Unit {0}
+-- what is wanted can be paid for
+abbrev pub Affords : DirectionState → (extra : ℕ) → Want → Type 0
+Affords d extra (wants.Read n) = can_read d extra ≡ true
+Affords d extra wants.Write = can_write d extra ≡ true
+Affords d extra wants.Send = can_write d extra ≡ true
+Affords d extra other = Unit {0}
 
 -- what is wanted to be read has room
 abbrev pub FitsRoom : DirectionState → Want → Type 0

@@ -1,30 +1,21 @@
 // The fields of a direction, what it wants, and what each act makes of it.
-ghost use Rattle.std.specs.Prelude.{◌≡◌, ◌∷◌, ◌++◌, ◌≤◌, ◌<◌, ◌*◌, ◌&&◌, ◌||◌, not, ℕ, List, [], true, false, Option, Some, None, IfOk, if◌then◌else◌, is_some, length, take, vec_len};
+ghost use Rattle.std.specs.Prelude.{◌≡◌, ◌∷◌, ◌++◌, ◌+◌, ◌≤◌, ◌<◌, ◌*◌, ◌&&◌, ◌||◌, not, ℕ, List, [], true, false, Option, Some, None, IfOk, if◌then◌else◌, is_some, length, take, vec_len};
 ghost use Rattle.relay_model.specs.{Act, Peer, Shut as Shutting, Config as Command, Way as WayOf, ReadyAt as Entry, Listed, later, Fit, formed};
 ghost use Rattle.relay_model.specs.{input, output, keeps_borders, running, now, broken, done_at, passed, MayOffer, MayShut, MayWrite, input_moment};
 ghost use Rattle.relay_model.specs.{owes_write, way_work, is_spent, over, greatest_read, backlog, armed_to_read, asked_to_write};
 ghost use Rattle.relay_model.specs.declared.acts.Act.TheVariants as acts;
 ghost use Rattle.relay_buffer.specs.{room_in};
-ghost use Rattle.session_direction.specs.Directions.{IsDirection, Wants, WantsRead, Affords, FitsRoom, granted, is_gathered, listed, terms_of};
+ghost use Rattle.session_direction.specs.Directions.{IsDirection, Wants, WantsRead, Affords, FitsRoom, is_gathered, listed, terms_of};
 ghost use Rattle.session_direction.specs.declared.directions.Want.TheVariants as wants;
-ghost use Rattle.session_direction.specs.States.{can_read, can_write, left_after, read_price, steps_in};
+ghost use Rattle.session_direction.specs.States.{can_read, can_write, read_price, write_price, steps_in};
 ghost use Rattle.session_direction.specs.Touches.{touches};
 
-use command_places::{how, input, is_formed, keeps_borders, medium_of, options_of, output, parts};
+use command_places::{how, input, keeps_borders, medium_of, options_of, output};
 use line_ends::Convs;
 use relay_buffer::{Flow, Lane};
-use relay_model::{Arming, Config, Half, Medium, NoMemory, Place, ReadyAt, Shut, Side, Way};
+use relay_model::{Arming, Config, Half, Medium, NoMemory, Place, ReadyAt, Shut, Way};
 use std::alloc::Global;
 use std::marker::Model;
-
-/// How many calls a session makes at most between two turns.
-const MOST_CALLS: usize = 64;
-
-/// How many of them each of its places may take until it is ready.
-const OPENING_CALLS: usize = 7;
-
-/// How many of them a direction makes at most that no grant pays.
-const FREE_CALLS: usize = 4;
 
 /// What a further write costs, and a further read where the output wasn't asked since the last one.
 const PRICE: u8 = 1;
@@ -63,9 +54,6 @@ pub struct Direction {
     armed_out: bool,
     asked_in: bool,
     asked_out: bool,
-    /// How much a turn grants for further asks, and how much of it is left.
-    grant: u8,
-    extra: u8,
     ended: bool,
     passed_at: Option<u64>,
     broken_at: Option<u64>,
@@ -90,8 +78,6 @@ impl Model for Direction {
       armed_out = d.armed_out;
       asked_in = d.asked_in;
       asked_out = d.asked_out;
-      grant = d.grant;
-      extra = d.extra;
       ended = d.ended;
       passed_at = d.passed_at;
       broken_at = d.broken_at;
@@ -110,7 +96,6 @@ impl Direction {
         let source = input(config, number, way);
         let sink = output(config, number, way);
         let options = options_of(config, source);
-        let grant = granted(config);
         let flow = Flow::new(alloc, terms)?;
         Ok(Direction {
             source,
@@ -126,8 +111,6 @@ impl Direction {
             armed_out: false,
             asked_in: false,
             asked_out: false,
-            grant,
-            extra: grant,
             ended: false,
             passed_at: None,
             broken_at: None,
@@ -240,36 +223,43 @@ impl Direction {
         self.armed_out && !self.flow.spent()
     }
 
-    /// Whether the input may be asked before the next turn.
-    fn can_read(&self) -> bool
-        ensures { result ≡ can_read self.now }
-    {
-        !self.asked_in || self.extra >= self.read_price()
-    }
-
-    /// What a further read costs.
-    fn read_price(&self) -> u8
+    /// What a read costs. The first one after a turn costs nothing.
+    pub fn read_price(&self) -> u8
         ensures { result ≡ read_price self.now }
     {
-        if self.asked_out {
-            GRANTING_PRICE
-        } else {
-            PRICE
+        match (self.asked_in, self.asked_out) {
+            (false, _) => 0,
+            (true, false) => PRICE,
+            (true, true) => GRANTING_PRICE,
         }
     }
 
-    /// Whether the output may be asked before the next turn.
-    fn can_write(&self) -> bool
-        ensures { result ≡ can_write self.now }
+    /// What a write costs. The first one after a turn or a read costs nothing.
+    pub fn write_price(&self) -> u8
+        ensures { result ≡ write_price self.now }
     {
-        !self.asked_out || self.extra >= PRICE
+        if self.asked_out { PRICE } else { 0 }
+    }
+
+    /// Whether `extra` pays for a read.
+    fn can_read(&self, extra: u8) -> bool
+        ensures { result ≡ can_read self.now extra }
+    {
+        self.read_price() <= extra
+    }
+
+    /// Whether `extra` pays for a write.
+    fn can_write(&self, extra: u8) -> bool
+        ensures { result ≡ can_write self.now extra }
+    {
+        self.write_price() <= extra
     }
 
     /// A write of the bytes that wait.
     fn want_to_write(&self) -> Want
         ensures wants { (c : Command) (past : List Act) (s : ℕ) (w : WayOf) → IsDirection c past s w self.now
             → passed c past s w ≡ false → owes_write c past s w ≡ true → Wants c past s w result }
-        ensures affords { can_write self.now ≡ true → Affords self.now result }
+        ensures affords { (extra : ℕ) → can_write self.now extra ≡ true → Affords self.now extra result }
         ensures fits { FitsRoom self.now result }
     {
         if self.terms.packets.is_some() {
@@ -279,11 +269,12 @@ impl Direction {
         }
     }
 
-    /// What is to be done next while the session runs, where `at` is the moment of the last turn.
-    pub fn want(&self, at: u64) -> Want
+    /// What is to be done next while the session runs, where `at` is the moment of the last turn, and `extra` pays for what
+    /// is asked more than once since then.
+    pub fn want(&self, at: u64, extra: u8) -> Want
         ensures wants { (c : Command) (past : List Act) (s : ℕ) (w : WayOf) → IsDirection c past s w self.now → at ≡ now past
             → running c past s ≡ true → 1 ≤ c.block → Wants c past s w result }
-        ensures affords { Affords self.now result }
+        ensures affords { Affords self.now extra result }
         ensures fits { FitsRoom self.now result }
     {
         if self.is_broken() {
@@ -296,17 +287,17 @@ impl Direction {
             return Want::Shut(self.how);
         }
         if self.reads_on() {
-            if let Want::Read(room) = self.want_to_read(at) {
+            if let Want::Read(room) = self.want_to_read(at, extra) {
                 return Want::Read(room);
             }
         }
-        if self.may_write() && self.can_write() {
+        if self.may_write() && self.can_write(extra) {
             return self.want_to_write();
         }
         if self.holds_enough() {
             return Want::Nothing;
         }
-        self.want_to_read(at)
+        self.want_to_read(at, extra)
     }
 
     /// Whether it gathers, was asked since the last turn, and less than a block waits, and less than is gathered: then it
@@ -334,7 +325,7 @@ impl Direction {
     }
 
     /// A read, where the input is worth asking. While more than a block waits, nothing more is read.
-    fn want_to_read(&self, at: u64) -> Want
+    fn want_to_read(&self, at: u64, extra: u8) -> Want
         ensures wants { (c : Command) (past : List Act) (s : ℕ) (w : WayOf) → IsDirection c past s w self.now → at ≡ now past
             → running c past s ≡ true → 1 ≤ c.block → broken c past s w ≡ false → passed c past s w ≡ false
             → is_spent c past s w ≡ false
@@ -343,10 +334,10 @@ impl Direction {
         ensures reads { (c : Command) (past : List Act) (s : ℕ) (w : WayOf) (n : ℕ) → IsDirection c past s w self.now
             → at ≡ now past → running c past s ≡ true → broken c past s w ≡ false → passed c past s w ≡ false
             → result ≡ wants.Read n → WantsRead c past s w n }
-        ensures affords { Affords self.now result }
+        ensures affords { Affords self.now extra result }
         ensures fits { FitsRoom self.now result }
     {
-        if !self.can_read() {
+        if !self.can_read(extra) {
             return Want::Nothing;
         }
         if !self.is_worth_asking(at) {
@@ -408,9 +399,8 @@ impl Direction {
         requires { length bytes.now ≤ room_in self.old.flow }
         ensures goes { (c : Command) (past : List Act) (s : ℕ) (w : WayOf) → IsDirection c past s w self.old
             → passed c past s w ≡ false → IsDirection c (acts.Read (input c s w) bytes.now ∷ past) s w self.new }
-        ensures fewer { can_read self.old ≡ true → steps_in self.new < steps_in self.old }
+        ensures fewer { steps_in self.new < steps_in self.old + read_price self.old }
     {
-        self.extra = left_after(self.asked_in, self.read_price(), self.extra);
         self.asked_in = true;
         self.asked_out = false;
         self.flow.fill(bytes);
@@ -432,10 +422,9 @@ impl Direction {
         ensures goes { (c : Command) (past : List Act) (s : ℕ) (w : WayOf) → IsDirection c past s w self.old
             → passed c past s w ≡ false
             → IsDirection c (acts.Read (input c s w) (take count block.old.items) ∷ past) s w self.new }
-        ensures fewer { can_read self.old ≡ true → steps_in self.new < steps_in self.old }
+        ensures fewer { steps_in self.new < steps_in self.old + read_price self.old }
         ensures block { vec_len block.new ≡ vec_len block.old }
     {
-        self.extra = left_after(self.asked_in, self.read_price(), self.extra);
         self.asked_in = true;
         self.asked_out = false;
         self.flow.fill_block(block, count);
@@ -445,9 +434,8 @@ impl Direction {
     pub fn hear_empty(&mut self)
         ensures goes { (c : Command) (past : List Act) (s : ℕ) (w : WayOf) → IsDirection c past s w self.old
             → IsDirection c (acts.ReadEmpty (input c s w) ∷ past) s w self.new }
-        ensures fewer { can_read self.old ≡ true → steps_in self.new < steps_in self.old }
+        ensures fewer { steps_in self.new < steps_in self.old + read_price self.old }
     {
-        self.extra = left_after(self.asked_in, self.read_price(), self.extra);
         self.asked_in = true;
         self.ended = self.ends_at_empty | self.ended;
     }
@@ -456,9 +444,8 @@ impl Direction {
     pub fn hear_end(&mut self, at: u64)
         ensures goes { (c : Command) (past : List Act) (s : ℕ) (w : WayOf) → IsDirection c past s w self.old → at ≡ now past
             → IsDirection c (acts.ReadEnd (input c s w) ∷ past) s w self.new }
-        ensures fewer { can_read self.old ≡ true → steps_in self.new < steps_in self.old }
+        ensures fewer { steps_in self.new < steps_in self.old + read_price self.old }
     {
-        self.extra = left_after(self.asked_in, self.read_price(), self.extra);
         self.asked_in = true;
         self.arming = Arming::AtEnd(at);
         self.ended = !self.ignores_end | self.ended;
@@ -468,9 +455,8 @@ impl Direction {
     pub fn hear_read_not_yet(&mut self)
         ensures goes { (c : Command) (past : List Act) (s : ℕ) (w : WayOf) → IsDirection c past s w self.old
             → IsDirection c (acts.ReadNotYet (input c s w) ∷ past) s w self.new }
-        ensures fewer { can_read self.old ≡ true → steps_in self.new < steps_in self.old }
+        ensures fewer { steps_in self.new < steps_in self.old + read_price self.old }
     {
-        self.extra = left_after(self.asked_in, self.read_price(), self.extra);
         self.asked_in = true;
         self.arming = Arming::Disarmed;
     }
@@ -479,9 +465,8 @@ impl Direction {
     pub fn hear_read_failure(&mut self, at: u64)
         ensures goes { (c : Command) (past : List Act) (s : ℕ) (w : WayOf) → IsDirection c past s w self.old → at ≡ now past
             → IsDirection c (acts.ReadFault (input c s w) ∷ past) s w self.new }
-        ensures fewer { can_read self.old ≡ true → steps_in self.new < steps_in self.old }
+        ensures fewer { steps_in self.new < steps_in self.old + read_price self.old }
     {
-        self.extra = left_after(self.asked_in, self.read_price(), self.extra);
         self.asked_in = true;
         self.broken_at = broken_by_fault(self.sloppy, at);
     }
@@ -495,9 +480,8 @@ impl Direction {
             → IsDirection c (acts.Wrote (output c s w) (take count self.old.flow.backlog) ∷ past) s w self.new }
         ensures may { (c : Command) (past : List Act) (s : ℕ) (w : WayOf) → IsDirection c past s w self.old → 1 ≤ count
             → MayOffer c past (output c s w) → MayWrite c past (output c s w) (take count self.old.flow.backlog) }
-        ensures fewer { can_write self.old ≡ true → steps_in self.new < steps_in self.old }
+        ensures fewer { steps_in self.new < steps_in self.old + write_price self.old }
     {
-        self.extra = left_after(self.asked_out, PRICE, self.extra);
         self.asked_out = true;
         self.flow.took(count);
     }
@@ -506,9 +490,8 @@ impl Direction {
     pub fn hear_write_not_yet(&mut self)
         ensures goes { (c : Command) (past : List Act) (s : ℕ) (w : WayOf) → IsDirection c past s w self.old
             → IsDirection c (acts.WriteNotYet (output c s w) ∷ past) s w self.new }
-        ensures fewer { can_write self.old ≡ true → steps_in self.new < steps_in self.old }
+        ensures fewer { steps_in self.new < steps_in self.old + write_price self.old }
     {
-        self.extra = left_after(self.asked_out, PRICE, self.extra);
         self.asked_out = true;
         self.armed_out = false;
     }
@@ -517,9 +500,8 @@ impl Direction {
     pub fn hear_write_failure(&mut self, at: u64)
         ensures goes { (c : Command) (past : List Act) (s : ℕ) (w : WayOf) → IsDirection c past s w self.old → at ≡ now past
             → broken c past s w ≡ false → IsDirection c (acts.WriteFault (output c s w) ∷ past) s w self.new }
-        ensures fewer { can_write self.old ≡ true → steps_in self.new < steps_in self.old }
+        ensures fewer { steps_in self.new < steps_in self.old + write_price self.old }
     {
-        self.extra = left_after(self.asked_out, PRICE, self.extra);
         self.asked_out = true;
         self.broken_at = broken_by_fault(self.sloppy, at);
     }
@@ -545,7 +527,6 @@ impl Direction {
     {
         self.asked_in = false;
         self.asked_out = false;
-        self.extra = self.grant;
     }
 
     /// The last turn names this half too, which may be one of the direction's.
@@ -601,32 +582,6 @@ fn is_gathered(medium: Medium) -> bool
     match medium {
         Medium::Standard | Medium::Storage | Medium::Program => true,
         Medium::Connection | Medium::Datagrams => false,
-    }
-}
-
-/// How much a turn grants a direction for asks beyond the first of each half.
-fn granted(config: &Config) -> u8
-    ensures { result ≡ granted config.now }
-{
-    let places = parts(config, Side::Left).len() + parts(config, Side::Right).len();
-    let left = MOST_CALLS - OPENING_CALLS * places;
-    let share = if is_formed(config, Way::LeftToRight) && is_formed(config, Way::RightToLeft) {
-        left / 2
-    } else {
-        left
-    };
-    (share - FREE_CALLS) as u8
-}
-
-/// What is left to be spent after one more ask: the first of each half costs nothing.
-fn left_after(asked: bool, price: u8, extra: u8) -> u8
-    ensures left { result ≡ left_after asked price extra }
-    ensures within { result ≤ extra }
-{
-    if asked {
-        extra.saturating_sub(price)
-    } else {
-        extra
     }
 }
 

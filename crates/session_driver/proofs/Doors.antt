@@ -1,6 +1,6 @@
 -- What the acts of the program door say of sessions that have begun, and of who becomes the next.
 use Rattle.std.proofs.Common.{◌≡◌, refl, sym, ap, subst, ◌∙◌, ℕ, ◌<◌, ◌⊎◌, inl, inr, Bool, true, false, ◌&&◌, List, ◌∷◌, Option, Some, None, arith}
-use Rattle.std.proofs.lemmas.Bool.{true≢false, false≢true, and_parts, false_from_ne_true}
+use Rattle.std.proofs.lemmas.Bool.{true≢false, and_parts, false_from_ne_true}
 use Rattle.relay_model.specs.declared.places.Place.{Place}
 use Rattle.relay_model.specs.declared.commands.Config.{Config}
 use Rattle.relay_model.specs.declared.acts.Peer.{Peer}
@@ -21,9 +21,9 @@ use Rattle.program_door.specs.declared.wishes.DoorWish.TheVariants as wishes
 use Rattle.program_door.specs.declared.wishes.DoorAnswer.{DoorAnswer}
 use Rattle.program_door.specs.declared.wishes.DoorAnswer.TheVariants as answers
 use Rattle.program_door.specs.Steps.{DoorHeard, DoorHeardBy}
-use Rattle.program_door.specs.Wishes.{Wished, EndsCalls, act_of}
+use Rattle.program_door.specs.Wishes.{Wished, act_of}
 use Rattle.world_trait.specs.Seen.{Seen}
-use Rattle.session_driver.specs.DoorSteps.{DoorActs, AdmitsNone, EndsNone, WishFor, DoorFor, DoorStepIs}
+use Rattle.session_driver.specs.DoorSteps.{DoorActs, EndsNone, WishFor, DoorFor, DoorStepIs}
 use Rattle.session_driver.specs.declared.door_stepped.DoorStepped.{DoorStepped}
 use Rattle.session_driver.specs.declared.door_stepped.DoorStepped.TheVariants as steps
 

@@ -5,7 +5,6 @@ use Rattle.relay_model.specs.declared.acts.Act.{Act}
 use Rattle.relay_model.specs.declared.acts.Act.TheVariants as acts
 use Rattle.relay_model.specs.declared.places.Place.{Place}
 use Rattle.relay_model.specs.declared.commands.Config.{Config}
-use Rattle.relay_model.specs.Holding.{Hold}
 use Rattle.relay_model.specs.Journals.{History, Asking}
 use Rattle.relay_model.specs.History.{reaped_since}
 use Rattle.world_trait.specs.declared.answers.ReapAnswer.{ReapAnswer}

@@ -1,5 +1,5 @@
 -- What a step makes of a world and of the session that it is for.
-use Rattle.std.specs.Prelude.{◌≡◌, ℕ, ◌<◌, ◌≤◌, Bool, true, false, List, ◌∷◌, ◌++◌, Option, Some, None, option_map}
+use Rattle.std.specs.Prelude.{◌≡◌, ℕ, ◌<◌, Bool, true, false, List, ◌∷◌, ◌++◌, Option, Some, None, option_map}
 use Rattle.relay_model.specs.{Act, Place, Config, is_of, is_place_of, is_program_door, single, is_open, standing, turns, Legal, is_at, is_turn}
 use Rattle.relay_model.specs.{is_closing, reads_bytes, first_fault}
 use Rattle.relay_model.specs.declared.acts.Act.TheVariants.{ReadFault, WriteFault, Closed}

@@ -97,8 +97,6 @@ direction_alike c s w one other d h g =
       sloppy_is = g.sloppy_is;
       how_is = g.how_is;
       gathers_is = g.gathers_is;
-      grant_is = g.grant_is;
-      extra_within = g.extra_within;
       flow_is = subst (λ (a : List ℕ). IsFlow (terms_of c w) a (put one (output c s w)) d.flow) (sym i.got_same) (subst (λ (b : List ℕ). IsFlow (terms_of c w) (got other (input c s w)) b d.flow) (sym o.put_same) g.flow_is);
       arming_is = g.arming_is ∙ sym i.read_arming_same;
       armed_out_is = g.armed_out_is ∙ sym o.armed_to_write_same;
@@ -121,7 +119,7 @@ ground_near c s one other st h g = record {
   begun = h.begun;
   home_held = λ fork u. ap holds_at (h.own (home c s) refl (place_own c s Left (home c s).part)).stage_same ∙ g.home_held fork (h.unclosed u);
   openings_are = record { each = each_alike c s one other h (places c s) st.openings (each_place c s) g.openings_are.each };
-  lanes_are = record { to_right_is = lane_alike c s LeftToRight one other st.lanes.to_right h g.lanes_are.to_right_is; to_left_is = lane_alike c s RightToLeft one other st.lanes.to_left h g.lanes_are.to_left_is };
+  lanes_are = record { to_right_is = lane_alike c s LeftToRight one other st.lanes.to_right h g.lanes_are.to_right_is; to_left_is = lane_alike c s RightToLeft one other st.lanes.to_left h g.lanes_are.to_left_is; grant_is = g.lanes_are.grant_is; extra_within = g.lanes_are.extra_within };
   clock_is = g.clock_is ∙ sym h.now_same;
   moved_is = g.moved_is ∙ sym h.moved_same;
   faulted_is = g.faulted_is ∙ sym (faults_by c s one other h.own (places c s) (each_place c s));

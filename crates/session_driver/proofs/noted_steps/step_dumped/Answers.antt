@@ -1,4 +1,4 @@
-use Rattle.std.proofs.Common.{◌≤◌, vec_len, refl, sym, ap, ◌∙◌, arith}
+use Rattle.std.proofs.Common.{refl, sym, ap, ◌∙◌, arith}
 use Rattle.relay_model.specs.Holding.{is_open}
 use Rattle.std.proofs.lemmas.List.{length-take-le}
 use Rattle.session_driver.proofs.Sizes.{wish_fits}

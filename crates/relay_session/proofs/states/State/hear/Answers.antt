@@ -1,5 +1,5 @@
-use Rattle.std.proofs.Common.{refl}
 use Rattle.std.proofs.lemmas.Bool.{or_left}
+use Rattle.std.proofs.Math.Dec.{leb-zero}
 use Rattle.relay_session.proofs.StepLemmas.{reads_bytes, reads_one, takes_some, takes_all, never_ended}
 use Rattle.relay_session.proofs.states.State.hear.Goals as goal
 
@@ -136,13 +136,13 @@ pub returns-in-Send-Failed-clause-over : goal.returns-in-Send-Failed-clause-over
 returns-in-Send-Failed-clause-over c = λ k n past s a e. never_ended c.args.self.now.ending (rw c.in-Send-Failed.is-0 at a).1.0 e
 
 pub returns-in-Shut-Done-clause-goes : goal.returns-in-Shut-Done-clause-goes
-returns-in-Shut-Done-clause-goes c = λ k n past s f a. let i = c.in-Shut-Done in rw (i.is-0, i.is-1) (c.hear_transfer-in-Shut-Done.ensures.goes k n past s f (rw i.is-0 at a).1 (record { own = (rw i.is-0 at a).0.own; may = (rw i.is-0 at a).0.may; affords = refl }))
+returns-in-Shut-Done-clause-goes c = λ k n past s f a. let i = c.in-Shut-Done in rw (i.is-0, i.is-1) (c.hear_transfer-in-Shut-Done.ensures.goes k n past s f (rw i.is-0 at a).1 (record { own = (rw i.is-0 at a).0.own; may = (rw i.is-0 at a).0.may; affords = leb-zero _ }))
 
 pub returns-in-Shut-Done-clause-over : goal.returns-in-Shut-Done-clause-over
 returns-in-Shut-Done-clause-over c = λ k n past s a e. never_ended c.args.self.now.ending (rw c.in-Shut-Done.is-0 at a).1 e
 
 pub returns-in-Shut-Failed-clause-goes : goal.returns-in-Shut-Failed-clause-goes
-returns-in-Shut-Failed-clause-goes c = λ k n past s f a. let i = c.in-Shut-Failed in rw (i.is-0, i.is-1) (c.hear_transfer-in-Shut-Failed.ensures.goes k n past s f (rw i.is-0 at a).1 (record { own = (rw i.is-0 at a).0.own; may = (rw i.is-0 at a).0.may; affords = refl }))
+returns-in-Shut-Failed-clause-goes c = λ k n past s f a. let i = c.in-Shut-Failed in rw (i.is-0, i.is-1) (c.hear_transfer-in-Shut-Failed.ensures.goes k n past s f (rw i.is-0 at a).1 (record { own = (rw i.is-0 at a).0.own; may = (rw i.is-0 at a).0.may; affords = leb-zero _ }))
 
 pub returns-in-Shut-Failed-clause-over : goal.returns-in-Shut-Failed-clause-over
 returns-in-Shut-Failed-clause-over c = λ k n past s a e. never_ended c.args.self.now.ending (rw c.in-Shut-Failed.is-0 at a).1 e

@@ -1,7 +1,7 @@
 use Rattle.std.proofs.Common.{sym, subst}
 use Rattle.session_direction.specs.Directions.{IsDirection}
-use Rattle.session_direction.proofs.Steps.{read_empty, with_less}
+use Rattle.session_direction.proofs.Steps.{read_empty}
 use Rattle.session_direction.proofs.directions.Direction.hear_empty.Goals as goal
 
 pub returns-clause-goes : goal.returns-clause-goes
-returns-clause-goes c = λ k past s w f. (read_empty k past s w _ (with_less k past s w _ _ c.left_after-self-inside.ensures.within (subst (IsDirection k past s w) (sym c.self.view_is) f)))
+returns-clause-goes c = λ k past s w f. (read_empty k past s w _ (subst (IsDirection k past s w) (sym c.self.view_is) f))

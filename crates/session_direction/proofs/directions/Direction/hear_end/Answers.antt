@@ -1,7 +1,7 @@
 use Rattle.std.proofs.Common.{sym, subst}
 use Rattle.session_direction.specs.Directions.{IsDirection}
-use Rattle.session_direction.proofs.Steps.{read_end, with_less}
+use Rattle.session_direction.proofs.Steps.{read_end}
 use Rattle.session_direction.proofs.directions.Direction.hear_end.Goals as goal
 
 pub returns-clause-goes : goal.returns-clause-goes
-returns-clause-goes c = λ k past s w f clock. (read_end k past s w _ c.args.at clock (with_less k past s w _ _ c.left_after-self-inside.ensures.within (subst (IsDirection k past s w) (sym c.self.view_is) f)))
+returns-clause-goes c = λ k past s w f clock. (read_end k past s w _ c.args.at clock (subst (IsDirection k past s w) (sym c.self.view_is) f))

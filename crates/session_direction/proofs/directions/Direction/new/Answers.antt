@@ -1,4 +1,4 @@
-use Rattle.std.proofs.Common.{rules, ◌≡◌, ℕ, List, [], Option, None, Some, refl, sym, ap, ◌∙◌, arith}
+use Rattle.std.proofs.Common.{rules, ◌≡◌, ℕ, [], Option, None, Some, refl, sym, ap, ◌∙◌, arith}
 use Rattle.std.proofs.lemmas.List.{take_all}
 use Rattle.relay_model.specs.declared.commands.Conv.{Conv}
 use Rattle.relay_model.specs.declared.commands.Conv.TheVariants.{Plain, Cr, Crnl}
@@ -51,8 +51,6 @@ returns c =
       armed_out_is = search rules;
       asked_in_is = search rules;
       asked_out_is = search rules;
-      grant_is = search rules;
-      extra_within = search rules;
       ended_is = search rules;
       passed_is = search rules;
       broken_is = search rules;
