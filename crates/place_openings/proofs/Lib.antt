@@ -6,6 +6,7 @@ pub mod Taking
 pub mod Lifting
 pub mod Asked
 pub mod Called
+pub mod Counting
 pub mod Staying
 pub mod Beginning
 pub mod GivingUp

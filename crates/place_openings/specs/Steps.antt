@@ -1,7 +1,7 @@
 -- How many calls the openings of a session take at most before the next turn.
 use Rattle.std.specs.Prelude.{ℕ, ◌+◌, Bool, true, false, not, ◌&&◌, List, [], ◌∷◌, if◌then◌else◌}
 use Rattle.std.specs.List.{list_any}
-use Rattle.relay_model.specs.{Place, same_place, door_of, Stage}
+use Rattle.relay_model.specs.{Place, Config, same_place, door_of, has_own_door, Stage}
 use Rattle.relay_model.specs.declared.stages.Stage.TheVariants.{Untried, Usable, Unsettled, Failed, Met, Waiting, Gone}
 use Rattle.place_openings.specs.declared.one_place.Opening.{Opening}
 
@@ -21,14 +21,36 @@ abbrev pub left_unless : Bool → ℕ → ℕ
 left_unless true n = 0
 left_unless false n = n
 
--- a peer that is accepted may have to be refused too, so an accepting counts twice
+-- the calls left at the own door; a peer that is accepted may have to be refused too, so an accepting counts twice
+abbrev pub door_steps : Opening → ℕ
+door_steps o = if o.has_door then stage_weight o.door false o.tried + left_unless o.asked 2 else 0
+
+-- the calls left at the place and at its own door, with the question what became of its child
 abbrev pub steps_of : Opening → ℕ
-steps_of o = stage_weight o.stage o.woken o.tried + stage_weight o.door false o.tried + left_unless o.asked 2 + left_unless o.asked_child 1
+steps_of o = stage_weight o.stage o.woken o.tried + door_steps o + left_unless o.asked_child 1
 
 -- how many calls openings take at most before the next turn
 abbrev pub steps_in : List Opening → ℕ
 steps_in [] = 0
 steps_in (o ∷ os) = steps_of o + steps_in os
+
+-- how many calls an opening takes at most between two turns: three at the place, and four at an own door
+abbrev pub most_of : Opening → ℕ
+most_of o = if o.has_door then 7 else 3
+
+-- how many calls openings take at most between two turns
+abbrev pub most_in : List Opening → ℕ
+most_in [] = 0
+most_in (o ∷ os) = most_of o + most_in os
+
+-- how many calls a place takes at most between two turns, by what the command says of it
+abbrev pub calls_at : Config → Place → ℕ
+calls_at c p = if has_own_door c p then 7 else 3
+
+-- how many calls these places take at most between two turns
+abbrev pub calls_among : Config → List Place → ℕ
+calls_among c [] = 0
+calls_among c (p ∷ ps) = calls_at c p + calls_among c ps
 
 -- whether a place or door is the one of this opening
 abbrev pub is_place : Place → Opening → Bool

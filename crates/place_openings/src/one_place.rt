@@ -8,7 +8,7 @@ ghost use Rattle.retry_plan.specs.{PlanIs};
 ghost use Rattle.place_openings.specs.Moves.{Alike};
 ghost use Rattle.place_openings.specs.Queries.{ready_by, held_by, child_by, peer_by, gave_up};
 ghost use Rattle.place_openings.specs.Stands.{IsOpening, IsTried, kept, tried_at};
-ghost use Rattle.place_openings.specs.Steps.{stage_weight, steps_of, is_place, is_own_door, asks_child, asked_by};
+ghost use Rattle.place_openings.specs.Steps.{stage_weight, steps_of, most_of, is_place, is_own_door, asks_child, asked_by};
 ghost use Rattle.place_openings.specs.Tried.{try_call, call_by, is_end_of_tries};
 
 use command_places::{has_own_door, is_program, listens_at, medium_of, options_of};
@@ -60,6 +60,15 @@ impl Opening {
             plan: Plan::new(tries.retry, tries.forever, tries.interval),
             filter: Filter::new(options),
         }
+    }
+
+    /// How many calls the place and its own door take at most between two turns: an opening or a settling, a closing, and
+    /// the question what became of a child; at the door a listening, a closing, and an accepting, after which the peer may
+    /// be refused.
+    pub fn most_calls(&self) -> usize
+        ensures { result ≡ most_of self.now }
+    {
+        if self.has_door { 7 } else { 3 }
     }
 
     // ---- what is called for
@@ -310,7 +319,7 @@ impl Opening {
         ensures apart { is_place place self.old ≡ false → is_own_door place self.old ≡ false
             → self.new ≡ self.old }
         ensures fewer { is_place place self.old ≡ true → is_own_door place self.old ≡ false
-            → self.old.asked ≡ false → steps_of self.new < steps_of self.old }
+            → self.old.has_door ≡ true → self.old.asked ≡ false → steps_of self.new < steps_of self.old }
         ensures asked { (p : Place) → asked_by p self.new ≡ asked_by p self.old }
     {
         self.stage = self.stage.after(place.is(self.place), Stage::Met(peer));

@@ -10,7 +10,7 @@ ghost use Rattle.relay_model.specs.declared.calls.Call.TheVariants as calls;
 ghost use Rattle.place_openings.specs.Moves.{TookEach};
 ghost use Rattle.place_openings.specs.Queries.{first_of, held_by, child_by, of_session, peer_of_first};
 ghost use Rattle.place_openings.specs.Stands.{Each, AreOpenings, kept};
-ghost use Rattle.place_openings.specs.Steps.{has_asked, steps_in};
+ghost use Rattle.place_openings.specs.Steps.{calls_among, has_asked, most_in, steps_in};
 ghost use Rattle.place_openings.specs.Touching.{touches};
 
 use crate::one_place::Opening;
@@ -71,6 +71,15 @@ impl Openings {
         self.items[self.count] = opening;
         self.count += 1;
         self.summary = OpeningSummary::of(&self.items[..self.count]);
+    }
+
+    /// How many calls the places take at most between two turns.
+    pub fn most_calls(&self) -> usize
+        ensures sum { (c : Command) (past : List Act) (s : ℕ) → AreOpenings c past s self.now
+            → result ≡ calls_among c (places c s) }
+        ensures within { result ≤ 28 }
+    {
+        most_calls(&self.items[..self.count])
     }
 
     /// What the first place that isn't ready calls for at this moment.
@@ -343,6 +352,19 @@ fn take_each(openings: &mut [Opening], step: OpeningStep)
     for opening in openings.iter_mut() {
         opening.take(step);
     }
+}
+
+fn most_calls(mut openings: &[Opening]) -> usize
+    requires { length openings.now ≤ 4 }
+    ensures sum { result ≡ most_in openings.entry.now }
+    ensures within { result ≤ 28 }
+{
+    let mut calls = 0;
+    while let [opening, rest @ ..] = openings {
+        calls += opening.most_calls();
+        openings = rest;
+    }
+    calls
 }
 
 fn first_held(mut openings: &[Opening]) -> Option<Place>

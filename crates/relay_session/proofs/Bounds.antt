@@ -1,5 +1,5 @@
 -- How many steps a session takes at most before the next turn, in one number.
-use Rattle.std.proofs.Common.{◌≡◌, refl, ℕ, ◌+◌, ◌*◌, ◌≤◌, Bool, true, false, ◌&&◌, cond, List, [], ◌∷◌, length, map, is_some, arith, length-append}
+use Rattle.std.proofs.Common.{◌≡◌, refl, ℕ, ◌+◌, ◌≤◌, Bool, true, false, ◌&&◌, cond, List, length, map, is_some, arith, length-append}
 use Rattle.std.proofs.lemmas.Bool.{false≢true}
 use Rattle.std.proofs.lemmas.List.{length-map}
 use Rattle.relay_model.specs.declared.places.Place.{Place}
@@ -13,11 +13,8 @@ use Rattle.relay_model.specs.declared.commands.Ways.{Ways}
 use Rattle.relay_model.specs.declared.commands.Ways.TheVariants as ways
 use Rattle.relay_model.specs.declared.acts.Act.{Act}
 use Rattle.relay_model.specs.Configs.{parts_of, parts, address, places, place_at, formed}
-use Rattle.relay_model.specs.declared.stages.Stage.{Stage}
-use Rattle.relay_model.specs.declared.stages.Stage.TheVariants.{Untried, Usable, Unsettled, Failed, Met, Waiting, Gone}
-use Rattle.place_openings.specs.declared.one_place.Opening.{Opening}
-use Rattle.place_openings.specs.Stands.{Each}
-use Rattle.place_openings.specs.Steps.{left_unless, stage_weight, steps_of, steps_in}
+use Rattle.place_openings.specs.Steps.{calls_among}
+use Rattle.place_openings.proofs.Counting.{calls_within, left_at_most, most_is}
 use Rattle.session_direction.specs.States.{DirectionState, unless}
 use Rattle.session_direction.specs.States as directions
 use Rattle.relay_session.specs.declared.lanes.SessionLane.{SessionLane}
@@ -29,31 +26,6 @@ use Rattle.relay_session.specs.States.{Ground}
 use Rattle.relay_session.specs.States as sessions
 
 -- ---- the openings
-
-weight_within : (st : Stage) (woken tried : Bool) → stage_weight st woken tried ≤ 2
-weight_within Untried woken tried = omega arith
-weight_within Usable woken tried = omega arith
-weight_within Unsettled true tried = omega arith
-weight_within Unsettled false tried = omega arith
-weight_within Failed woken true = omega arith
-weight_within Failed woken false = omega arith
-weight_within (Met peer) woken tried = omega arith
-weight_within Waiting woken tried = omega arith
-weight_within (Gone why) woken tried = omega arith
-
-left_within : (b : Bool) (n : ℕ) → left_unless b n ≤ n
-left_within true n = omega arith
-left_within false n = omega arith
-
-opening_within : (o : Opening) → steps_of o ≤ 7
-opening_within o =
-    omega (arith, weight_within o.stage o.woken o.tried, weight_within o.door false o.tried, left_within o.asked 2, left_within o.asked_child 1)
-
-each_within : (c : Config) (past : List Act) (ps : List Place) (os : List Opening) → Each c past ps os → steps_in os ≤ 7 * length ps
-each_within c past [] [] h = omega arith
-each_within c past [] (o ∷ os) h = absurd h
-each_within c past (p ∷ ps) [] h = absurd h
-each_within c past (p ∷ ps) (o ∷ os) h = omega (arith, opening_within o, each_within c past ps os h.1)
 
 parts_within : (w : Ways) (a : Address) (side : Side) → length (parts_of w a side) ≤ 2
 parts_within ways.Two (addresses.One single) side = omega arith
@@ -69,9 +41,9 @@ places_counted c s =
     let right : List Place = map (place_at s Right) (parts c Right) in
     rw (length-append left right, length-map (parts c Left) (place_at s Left), length-map (parts c Right) (place_at s Right)) refl
 
--- what four openings leave
-left_at_least : (c : Config) → 36 ≤ left_to_directions c
-left_at_least c = omega (arith, parts_within c.ways (address c Left) Left, parts_within c.ways (address c Right) Right)
+-- four places take twenty-eight calls at most
+calls_at_most : (c : Config) (s : ℕ) → calls_among c (places c s) ≤ 28
+calls_at_most c s = omega (arith, calls_within c (places c s), places_counted c s, parts_within c.ways (address c Left) Left, parts_within c.ways (address c Right) Right)
 
 -- ---- the directions
 
@@ -104,11 +76,11 @@ free_at_most true = omega arith
 free_at_most false = omega arith
 
 -- the two directions take at most what the openings leave
-lanes_within : (c : Config) (past : List Act) (s : ℕ) (lanes : Lanes) → AreLanes c past s lanes → lanes_steps lanes ≤ left_to_directions c
+lanes_within : (c : Config) (past : List Act) (s : ℕ) (lanes : Lanes) → AreLanes c past s lanes → lanes_steps lanes ≤ left_to_directions c s
 lanes_within c past s lanes are =
-    omega (arith, free_within c past s lanes.to_right lanes.to_left are.to_right_is are.to_left_is, are.grant_is, are.extra_within, left_at_least c, free_at_most (formed c LeftToRight && formed c RightToLeft))
+    omega (arith, free_within c past s lanes.to_right lanes.to_left are.to_right_is are.to_left_is, are.grant_is, are.extra_within, calls_at_most c s, free_at_most (formed c LeftToRight && formed c RightToLeft))
 
--- the openings, of seven steps each, and the directions
+-- the openings and the directions
 pub steps_within : (c : Config) (past : List Act) (s : ℕ) (st : State) → Ground c past s st → sessions.steps_of st ≤ 64
 steps_within c past s st g =
-    omega (arith, each_within c past (places c s) st.openings g.openings_are.each, places_counted c s, left_at_least c, lanes_within c past s st.lanes g.lanes_are)
+    omega (arith, left_at_most st.openings, most_is c past (places c s) st.openings g.openings_are.each, calls_at_most c s, lanes_within c past s st.lanes g.lanes_are)

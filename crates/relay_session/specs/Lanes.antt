@@ -1,10 +1,10 @@
 -- The two directions of a session, each where the command forms it.
-use Rattle.std.specs.Prelude.{◌≡◌, ℕ, ◌+◌, ◌-◌, ◌*◌, ◌≤◌, nat_le, Bool, true, false, ◌&&◌, if◌then◌else◌, List, [], length, Option, Some, None, is_some}
-use Rattle.relay_model.specs.{Place, Way, Config, Act, parts, formed, way_from, way_to, Shut as Shutting, keeps_borders, greatest_read, MayRead, MayTryWrite}
+use Rattle.std.specs.Prelude.{◌≡◌, ℕ, ◌+◌, ◌-◌, ◌≤◌, nat_le, Bool, true, false, ◌&&◌, if◌then◌else◌, List, [], Option, Some, None, is_some}
+use Rattle.relay_model.specs.{Place, Way, Config, Act, places, formed, way_from, way_to, Shut as Shutting, keeps_borders, greatest_read, MayRead, MayTryWrite}
 use Rattle.relay_model.specs.{MayShut}
-use Rattle.relay_model.specs.declared.places.Side.TheVariants.{Left, Right}
 use Rattle.relay_model.specs.declared.places.Way.TheVariants.{LeftToRight, RightToLeft}
 use Rattle.relay_buffer.specs.{room_in}
+use Rattle.place_openings.specs.{calls_among}
 use Rattle.session_direction.specs.{read_price, write_price, steps_in, IsDirection, WantsNothing}
 use Rattle.relay_session.specs.declared.wishes.Wish.{Wish}
 use Rattle.relay_session.specs.declared.wishes.Wish.TheVariants as wishes
@@ -17,20 +17,19 @@ abbrev pub IsLane : Config → List Act → ℕ → Way → SessionLane → Type
 IsLane c past s w Unformed = formed c w ≡ false
 IsLane c past s w (Formed d) = IsDirection c past s w d
 
--- of at most 64 calls of a session between two turns, those that are left to its directions: each of its places may take
--- seven until it is ready
-abbrev pub left_to_directions : Config → ℕ
-left_to_directions c = 64 - 7 * (length (parts c Left) + length (parts c Right))
+-- of at most 64 calls of a session between two turns, those that its openings leave to its directions
+abbrev pub left_to_directions : Config → (session : ℕ) → ℕ
+left_to_directions c s = 64 - calls_among c (places c s)
 
 -- how much a turn grants the directions for further asks: what is left, without the four calls of each that cost nothing
-abbrev pub granted : Config → ℕ
-granted c = left_to_directions c - (if formed c LeftToRight && formed c RightToLeft then 8 else 4)
+abbrev pub granted : Config → (session : ℕ) → ℕ
+granted c s = left_to_directions c s - (if formed c LeftToRight && formed c RightToLeft then 8 else 4)
 
 -- the two lanes stand for the two directions, which share what a turn grants
 pub record AreLanes (c : Config) (past : List Act) (s : ℕ) (lanes : Lanes) : Type 0 where
   pub to_right_is : IsLane c past s LeftToRight lanes.to_right
   pub to_left_is : IsLane c past s RightToLeft lanes.to_left
-  pub grant_is : lanes.grant ≡ granted c
+  pub grant_is : lanes.grant ≡ granted c s
   pub extra_within : lanes.extra ≤ lanes.grant
 
 -- the lane of a direction

@@ -1,28 +1,25 @@
 // The two directions of a session, each where the command forms it.
-ghost use Rattle.std.specs.Prelude.{◌≡◌, ℕ, ◌+◌, ◌<◌, ◌≤◌, ◌&&◌, ◌||◌, ◌∷◌, ◌++◌, [], not, List, Option, length, take, true, false, is_some, vec_len, IfOk};
-ghost use Rattle.relay_model.specs.{Act, Peer as Visitor, Config as Command, Way as Direct, ReadyAt as Entry, formed as forms, input, Fit};
+ghost use Rattle.std.specs.Prelude.{◌≡◌, ℕ, ◌+◌, ◌-◌, ◌<◌, ◌≤◌, ◌&&◌, ◌||◌, if◌then◌else◌, ◌∷◌, ◌++◌, [], not, List, Option, length, take, true, false, is_some, vec_len, IfOk};
+ghost use Rattle.relay_model.specs.{Act, Peer as Visitor, Config as Command, Way as Direct, ReadyAt as Entry, formed as forms, input, places, Fit};
 ghost use Rattle.relay_model.specs.{now as last_moment, later, earlier, passed, broken, done, done_at, is_unfinished, running, each_formed};
 ghost use Rattle.relay_model.specs.{some_formed, way_work, input_moment, MayRead, Listed};
 ghost use Rattle.relay_model.specs.declared.acts.Act.TheVariants as acts;
 ghost use Rattle.relay_model.specs.declared.places.Way.TheVariants.{LeftToRight, RightToLeft};
+ghost use Rattle.place_openings.specs.{calls_among};
 ghost use Rattle.session_direction.specs.{listed, IsDirection, steps_in, touches};
-ghost use Rattle.relay_session.specs.Lanes.{granted};
 ghost use Rattle.relay_session.specs.Timers.{one_done_at};
 ghost use Rattle.relay_session.specs.Transfers.{transfer_act, MayTransfer, price_of, affords_at, place_for, way_of};
 
 use crate::moments::{earlier as lesser, one_of};
 use crate::transfers::Transfer;
 use crate::wishes::Wish;
-use command_places::{is_formed, parts};
+use command_places::is_formed;
 use relay_model::{Config, NoMemory, Place, ReadyAt, Side, Way};
 use session_direction::{Direction, Want};
 use std::alloc::Global;
 
 /// How many calls a session makes at most between two turns.
 const MOST_CALLS: usize = 64;
-
-/// How many of them each of its places may take until it is ready.
-const OPENING_CALLS: usize = 7;
 
 /// How many of them each of its directions makes at most for nothing.
 const FREE_CALLS: usize = 4;
@@ -293,14 +290,21 @@ pub struct Lanes {
 impl Lanes {
     ghost use Rattle.relay_session.specs.Lanes.{AreLanes, LanesWish, can_read_at, lanes_steps, waiting_at, keeps_at};
 
-    /// Both directions of the session with this number, at the beginning.
-    pub fn new(alloc: Global, config: &Config, number: u32) -> Result<Lanes, NoMemory>
-        requires { Fit config.now }
+    /// Both directions of the session with this number, at the beginning. So many calls are its openings' between two turns.
+    pub fn new(
+        alloc: Global,
+        config: &Config,
+        number: u32,
+        opening_calls: usize,
+    ) -> Result<Lanes, NoMemory>
+        requires fit { Fit config.now }
+        requires calls { opening_calls ≡ calls_among config.now (places config.now number) }
+        requires within { opening_calls ≤ 28 }
         ensures { IfOk result (λ lanes. AreLanes config.now [] number lanes) }
     {
         let to_right = SessionLane::new(alloc, config, number, Way::LeftToRight)?;
         let to_left = SessionLane::new(alloc, config, number, Way::RightToLeft)?;
-        let grant = granted(config);
+        let grant = granted(config, opening_calls);
         Ok(Lanes {
             to_right,
             to_left,
@@ -496,13 +500,13 @@ impl Lanes {
 }
 
 /// How much a turn grants the directions of a session: what the openings and the calls that cost nothing leave.
-fn granted(config: &Config) -> u8
-    ensures { result ≡ granted config.now }
+fn granted(config: &Config, opening_calls: usize) -> u8
+    requires { opening_calls ≤ 28 }
+    ensures { result ≡ 64 - opening_calls - (if forms config.now LeftToRight && forms config.now RightToLeft then 8 else 4) }
 {
-    let places = parts(config, Side::Left).len() + parts(config, Side::Right).len();
     let both = is_formed(config, Way::LeftToRight) && is_formed(config, Way::RightToLeft);
     let directions = if both { 2 } else { 1 };
-    (MOST_CALLS - OPENING_CALLS * places - FREE_CALLS * directions) as u8
+    (MOST_CALLS - opening_calls - FREE_CALLS * directions) as u8
 }
 
 /// The direction of a transfer at this place.

@@ -53,12 +53,14 @@ impl State {
         requires { Fit config.now }
         ensures { IfOk result (λ st. IsNew config.now number st) }
     {
+        let openings = Openings::new(config, number);
+        let lanes = Lanes::new(alloc, config, number, openings.most_calls())?;
         Ok(State {
             closing: config.closing,
             idle: config.idle,
             sloppy: config.sloppy,
-            openings: Openings::new(config, number),
-            lanes: Lanes::new(alloc, config, number)?,
+            openings,
+            lanes,
             clock: 0,
             moved: 0,
             faulted: false,
