@@ -198,6 +198,26 @@ impl Log {
         ensures answer { result ≡ read_answer got }
         ensures keeps { Keeps (read_act place into.now result) (is_read_fault result) self.old self.new }
     {
+        if let (Got::Bytes(count), None) = (got, &copied) {
+            self.count(false);
+            return ReadAnswer::Bytes(count);
+        }
+        self.keep_read_act(place, got, copied, into)
+    }
+
+    /// The same, where the act is made.
+    fn keep_read_act(
+        &mut self,
+        place: Place,
+        got: Got,
+        copied: Option<Bytes>,
+        into: &[u8],
+    ) -> ReadAnswer
+        requires can { CanKeep copied into.now self.old }
+        requires fits { GotFits (length into.now) got }
+        ensures answer { result ≡ read_answer got }
+        ensures keeps { Keeps (read_act place into.now result) (is_read_fault result) self.old self.new }
+    {
         match got {
             Got::Bytes(count) => {
                 match copied {
@@ -230,6 +250,26 @@ impl Log {
 
     /// The answer of a write, whose act it keeps.
     pub fn keep_write(
+        &mut self,
+        place: Place,
+        took: Took,
+        copied: Option<Bytes>,
+        bytes: &[u8],
+    ) -> WriteAnswer
+        requires can { CanKeep copied bytes.now self.old }
+        requires fits { TookFits (length bytes.now) took }
+        ensures answer { result ≡ write_answer took }
+        ensures keeps { Keeps (write_act place bytes.now result) (is_write_fault result) self.old self.new }
+    {
+        if let (Took::Took(count), None) = (took, &copied) {
+            self.count(false);
+            return WriteAnswer::Took(count);
+        }
+        self.keep_write_act(place, took, copied, bytes)
+    }
+
+    /// The same, where the act is made.
+    fn keep_write_act(
         &mut self,
         place: Place,
         took: Took,

@@ -28,6 +28,25 @@ pub fn step_noted<W: World>(
     ensures step { NotedStep config.now (W.seen world.old) (W.seen world.new) session.old session.new dumper.old dumper.new result }
     ensures scratch { vec_len scratch.new ≡ vec_len scratch.old }
 {
+    match config.dump {
+        Dump::Off => step(session, world, config, scratch),
+        _ => step_or_close(session, world, config, scratch, dumper),
+    }
+}
+
+/// The same where the command dumps what it reads.
+fn step_or_close<W: World>(
+    session: &mut Session,
+    world: &mut W,
+    config: &Config,
+    scratch: &mut Vec<u8>,
+    dumper: &mut Dumper,
+) -> Stepped
+    requires block { config.now.block ≤ vec_len scratch.old }
+    requires meets { MeetsUnowed config.now (W.seen world.old) session.old }
+    ensures step { NotedStep config.now (W.seen world.old) (W.seen world.new) session.old session.new dumper.old dumper.new result }
+    ensures scratch { vec_len scratch.new ≡ vec_len scratch.old }
+{
     match step_owing(session, world, config, scratch, dumper) {
         Some(stepped) => stepped,
         None => {

@@ -1,5 +1,5 @@
 use Rattle.session_driver.proofs.Noting.{settled_step, owing_step}
-use Rattle.session_driver.proofs.noted_steps.step_noted.Goals as goal
+use Rattle.session_driver.proofs.noted_steps.step_or_close.Goals as goal
 
 pub returns-in-Some-clause-step : goal.returns-in-Some-clause-step
 returns-in-Some-clause-step g c = settled_step c.args.config.now _ _ _ _ _ _ c.in-Some.stepped c.in-Some.ensures.step
