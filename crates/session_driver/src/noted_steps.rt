@@ -9,7 +9,7 @@ ghost use Rattle.session_driver.specs.Owing.{ClosesShort, IsShort, OwingStep};
 use crate::calls::{close, fetch};
 use crate::dumpers::Dumper;
 use crate::stepped::{Fetched, Stepped};
-use crate::steps::step;
+use crate::steps::{any_step, step};
 use relay_model::{Config, Dump, Place, Why};
 use relay_session::{Session, Wish};
 use world_trait::{NoteAnswer, World};
@@ -42,12 +42,13 @@ fn step_or_close<W: World>(
     scratch: &mut Vec<u8>,
     dumper: &mut Dumper,
 ) -> Stepped
+    requires dumped { config.now.dump ≢ Dump.Off }
     requires block { config.now.block ≤ vec_len scratch.old }
     requires meets { MeetsUnowed config.now (W.seen world.old) session.old }
     ensures step { NotedStep config.now (W.seen world.old) (W.seen world.new) session.old session.new dumper.old dumper.new result }
     ensures scratch { vec_len scratch.new ≡ vec_len scratch.old }
 {
-    match step_owing(session, world, config, scratch, dumper) {
+    match step_dumped(session, world, config, scratch, dumper) {
         Some(stepped) => stepped,
         None => {
             close_first(session, world, config);
@@ -96,7 +97,7 @@ fn step_dumped<W: World>(
             let into = &mut scratch.as_mut_slice()[..at_most];
             read_noted(session, world, config, into, dumper, place, at_most)
         }
-        _ => Some(step(session, world, config, scratch)),
+        _ => Some(any_step(session, world, config, scratch)),
     }
 }
 
